@@ -1,0 +1,62 @@
+-- Division rounded down and up, by any divisor above zero: the bracket that each keeps, and how each goes with its operands.
+use mathlib.Core.Path.{_≡_}
+use Prim.Native.Nat.{ℕ, suc, _+_, _-_, _*_, _/_, _%_, _≤_, _<_}
+use native.Mathlib.Nat.{div-mul-le-self, lt-div-mul-add, le-div-iff-mul-le, mul-le-mul-left, le-trans, div-lt-iff-lt-mul, suc-le-suc-iff, mul-le-mul-right, le-of-mul-le-mul-right, lt-of-mul-lt-mul-right, le-antisymm, div-add-mod', div-zero}
+use native.Mathlib.Omega.{arith}
+use Rattle.arithmetic.specs.Rounding.{divUp}
+
+pub down-low : (a b : ℕ) → a / b * b ≤ a
+down-low a b = div-mul-le-self a b
+
+pub down-high : (a b : ℕ) → 0 < b → a < a / b * b + b
+down-high a b h = lt-div-mul-add h
+
+pub up-high : (a b : ℕ) → 0 < b → a ≤ divUp a b * b
+unfolding divUp
+up-high a b h = omega (arith, lt-div-mul-add {a = a + (b - 1)} h)
+
+pub up-low : (a b : ℕ) → 0 < b → divUp a b * b < a + b
+unfolding divUp
+up-low a b h = omega (arith, div-mul-le-self (a + (b - 1)) b)
+
+-- the quotients' own characterisations: x ≤ a / b and divUp a b ≤ x
+pub le-down : (x a b : ℕ) → 0 < b → x * b ≤ a → x ≤ a / b
+le-down x a b h k = le-div-iff-mul-le h .1 k
+
+pub up-le : (x a b : ℕ) → 0 < b → a ≤ x * b → divUp a b ≤ x
+unfolding divUp
+up-le x a b h k = suc-le-suc-iff .0 (div-lt-iff-lt-mul {x = a + (b - 1)} {y = suc x} h .1 (omega arith))
+
+-- rounding up, from the quotient and the remainder
+pub up-none : (a : ℕ) → divUp a 0 ≡ 0
+unfolding divUp
+up-none a = div-zero _
+
+pub up-even : (a b : ℕ) → 0 < b → a % b ≡ 0 → divUp a b ≡ a / b
+up-even a b h e =
+    le-antisymm (up-le (a / b) a b h (omega (arith, div-add-mod' a b)))
+    (le-of-mul-le-mul-right {k = b} (omega (arith, up-high a b h, down-low a b)) h)
+
+pub up-more : (a b : ℕ) → 0 < b → (a % b ≡ 0 → ⊥) → divUp a b ≡ a / b + 1
+up-more a b h e =
+    le-antisymm (up-le (a / b + 1) a b h (omega (arith, down-high a b h)))
+    (omega (arith, lt-of-mul-lt-mul-right b {m = a / b} {n = divUp a b} (omega (arith, up-high a b h, div-add-mod' a b))))
+
+pub down-mono : (a c b : ℕ) → 0 < b → a ≤ c → a / b ≤ c / b
+down-mono a c b h k = le-down (a / b) c b h (le-trans (down-low a b) k)
+
+pub up-mono : (a c b : ℕ) → 0 < b → a ≤ c → divUp a b ≤ divUp c b
+up-mono a c b h k = up-le (divUp c b) a b h (le-trans k (up-high c b h))
+
+-- a larger divisor, a smaller quotient
+pub down-anti : (a b d : ℕ) → 0 < b → b ≤ d → a / d ≤ a / b
+down-anti a b d h k = le-down (a / d) a b h (le-trans (mul-le-mul-left (a / d) k) (down-low a d))
+
+pub up-anti : (a b d : ℕ) → 0 < b → b ≤ d → divUp a d ≤ divUp a b
+up-anti a b d h k =
+    up-le (divUp a b) a d (omega arith) (le-trans (up-high a b h) (mul-le-mul-left (divUp a b) k))
+
+-- two rates compared at numerals: x is at most y · q / p, and q / p is at most c / d
+pub rate : (x y p q c d : ℕ) → 0 < p → x * p ≤ y * q → q * d ≤ p * c → x * d ≤ y * c
+rate x y p q c d pos h k =
+    le-of-mul-le-mul-right {k = p} (omega (arith, mul-le-mul-right d h, mul-le-mul-left y k)) pos

@@ -1,0 +1,22 @@
+// Whole-number arithmetic that several crates use.
+ghost use mathlib.Core.Path.{_≡_};
+ghost use Prim.Native.Nat.{_-_};
+ghost use Rattle.arithmetic.specs.Rounding.{divUp};
+
+// a / b rounded up; 0 where b is 0.
+pub fn div_up(a: u64, b: u64) -> u64
+    ensures { λ r. ⌜ r ≡ divUp a b ⌝ }
+{
+    if b == 0 {
+        return 0;
+    }
+    let q = a / b;
+    if a % b == 0 { q } else { q + 1 }
+}
+
+// a - b, or 0 where that is negative.
+pub fn difference_or_zero(a: u64, b: u64) -> u64
+    ensures { λ r. ⌜ r ≡ a - b ⌝ }
+{
+    if b <= a { a - b } else { 0 }
+}
