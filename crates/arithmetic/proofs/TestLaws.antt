@@ -4,8 +4,9 @@ use mathlib.Core.Logic.{_⊎_, inl, inr, ⊎-elim}
 use mathlib.Core.Bool.{Bool, true, false, cond, _||_, _&&_, true≢false, false≢true}
 use Prim.Native.Nat.{ℕ, zero, suc, _≤_, _<_}
 use native.Mathlib.Nat.{not-suc-le-zero, eq-or-lt-of-le, le-of-suc-le-suc}
-use borrow.Author.Tests.{ltb-true, ltb-false}
+use borrow.Author.Tests.{ltb-true, ltb-false, le-ltb}
 use lib.Dec.{ltb}
+use Rattle.arithmetic.specs.Ranges.{outside}
 
 pub lt-or-le : (a b : ℕ) → (a < b) ⊎ (b ≤ a)
 lt-or-le a b = by-test (ltb a b) refl
@@ -28,3 +29,12 @@ both false b e = absurd (false≢true e)
 pub cond-le : (t : Bool) {a b k : ℕ} → a ≤ k → b ≤ k → cond t a b ≤ k
 cond-le true h l = h
 cond-le false h l = l
+
+-- a number that is not outside a range is within it, and the other way round
+pub inside : (lowest highest n : ℕ) → outside lowest highest n ≡ false → (lowest ≤ n) × (n ≤ highest)
+inside lowest highest n e =
+    let h = neither (ltb n lowest) (ltb highest n) e
+    in (ltb-false n lowest (h .0), ltb-false highest n (h .1))
+
+pub not-outside : (lowest highest n : ℕ) → lowest ≤ n → n ≤ highest → outside lowest highest n ≡ false
+not-outside lowest highest n h k = simp (le-ltb n lowest h, le-ltb highest n k)

@@ -1,0 +1,35 @@
+-- Bounds of the sheet's lines over the accepted range: every number fits 64 bits.
+use Prim.Native.Nat.{ℕ, _+_, _-_, _*_, _/_, _≤_, _<_}
+use mathlib.Core.Path.{_≡_}
+use native.Mathlib.Nat.{mul-le-mul, add-le-add, le-trans}
+use native.Mathlib.Omega.{arith}
+use Rattle.arithmetic.specs.Rounding.{divUp}
+use lib.Dec.{leb}
+use Rattle.sheet.specs.Ranges.{dimensionMax, speedMax}
+use Rattle.sheet.specs.Bounds.{aMax, glideMax, slideMax, totalMax, AtMost}
+use Rattle.sheet.specs.Lines.{glideOf, runOf, savingOf, slideOf, totalAt, totalOf}
+use Rattle.sheet.specs.Column.{columnOf, columnBy, limits}
+use Rattle.sheet.proofs.FirstInTable.{first-max}
+
+run-max : (v : ℕ) → v ≤ speedMax → AtMost (runOf v) slideMax
+unfolding runOf divUp
+run-max v h = omega (arith, mul-le-mul h h)
+
+pub slide-max : (m v : ℕ) → v ≤ speedMax → AtMost (slideOf (runOf v) (savingOf m)) slideMax
+slide-max m v h = omega (arith, run-max v h)
+
+total-at-max : (a g s : ℕ) → a ≤ aMax → g ≤ glideMax → s ≤ slideMax → totalAt a g s ≤ totalMax
+total-at-max a g s ha hg hs = omega (arith, mul-le-mul ha (add-le-add hg hs), mul-le-mul ha ha)
+
+pub total-max : (w m v : ℕ) → w ≤ dimensionMax → v ≤ speedMax →
+    AtMost (totalOf (w + 600) glideOf (slideOf (runOf v) (savingOf m))) totalMax
+unfolding totalOf
+total-max w m v hw hv = (
+  total-at-max (w + 600) _ _ (omega arith) (omega arith) (slide-max m v hv .0),
+  total-at-max (w + 600) _ _ (omega arith) (omega arith) (slide-max m v hv .1),
+)
+
+-- there are five columns
+pub column-max : (high : ℕ) → columnOf high ≤ 5
+unfolding columnOf columnBy
+column-max high = first-max (leb high) limits 0

@@ -1,0 +1,65 @@
+-- `sheet_of` gives the sheet or its refusal.
+use native.Mathlib.Omega.{arith}
+use borrow.Author.Tests.{le-ltb, lt-ltb}
+use Rattle.arithmetic.proofs.TestLaws.{inside}
+use Rattle.sheet.specs.Ranges.{dimensionMin, dimensionMax, massMin, massMax}
+use Rattle.sheet.specs.Sheet.{sheetOf}
+use borrow.Author.Needs.{needs}
+use Rattle.sheet.proofs.sheet_of.Statement.{statement}
+use Rattle.sheet.proofs.sheet_of.Tie as tie
+
+refused-with-requires : tie.Need-refused-with-requires
+refused-with-requires c κs = search needs
+
+returns : tie.Need-returns
+unfolding sheetOf
+returns c = simp (c .before .if1 .taken) (cc)
+
+refused-with-requires-2 : tie.Need-refused-with-requires-2
+refused-with-requires-2 c κs = search needs
+
+returns-2 : tie.Need-returns-2
+unfolding sheetOf
+returns-2 c = simp (c .before .before .if1 .left, c .before .if2 .taken) (cc)
+
+refused-with-requires-3 : tie.Need-refused-with-requires-3
+refused-with-requires-3 c κs = search needs
+
+returns-3 : tie.Need-returns-3
+unfolding sheetOf
+returns-3 c = simp (c .before .before .before .if1 .left, c .before .before .if2 .left, lt-ltb _ _ (c .before .if3 .taken)) (cc)
+
+sheet-in-range-requires : tie.Need-sheet-in-range-requires
+sheet-in-range-requires c κs =
+    let args = c .before .before .before .args in
+    omega (arith, inside dimensionMin dimensionMax (args .dimension) (c .before .before .if1 .left), inside massMin massMax (args .mass) (c .before .if2 .left))
+
+refused-with-requires-4 : tie.Need-refused-with-requires-4
+refused-with-requires-4 c κs = search needs
+
+returns-4 : tie.Need-returns-4
+unfolding sheetOf
+returns-4 c =
+    let b = c .before .before .before .before in
+    simp (b .before .before .if1 .left, b .before .if2 .left, le-ltb _ _ (b .if3 .left), ← (c .before .before .before .sheet-in-range .ensures), lt-ltb _ _ (c .before .if4 .taken)) (cc)
+
+returns-5 : tie.Need-returns-5
+unfolding sheetOf
+returns-5 c =
+    let b = c .before .before .before in
+    simp (b .before .before .if1 .left, b .before .if2 .left, le-ltb _ _ (b .if3 .left), ← (c .before .before .sheet-in-range .ensures), le-ltb _ _ (c .if4 .left))
+
+pub sheet-of-spec : {M : Type 1} → statement M
+sheet-of-spec =
+    tie.close
+    (tie.spec
+    refused-with-requires
+    returns
+    refused-with-requires-2
+    returns-2
+    refused-with-requires-3
+    returns-3
+    sheet-in-range-requires
+    refused-with-requires-4
+    returns-4
+    returns-5)

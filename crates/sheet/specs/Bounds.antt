@@ -1,0 +1,20 @@
+-- How large the lines get within the aircraft's ranges: what the private functions ask of their arguments, so that every product fits 64 bits.
+use Prim.Native.Nat.{ℕ, _+_, _≤_}
+use Rattle.sheet.specs.Ranges.{dimensionMax}
+use Rattle.sheet.specs.declared.Bracket.{Bracket}
+
+abbrev pub aMax : ℕ
+aMax = dimensionMax + 600
+
+abbrev pub glideMax : ℕ
+glideMax = 2570667
+
+abbrev pub slideMax : ℕ
+slideMax = 3082587895
+
+abbrev pub totalMax : ℕ
+totalMax = 1000000000000000
+
+-- both ends of a line are at most n
+abbrev pub AtMost : Bracket → ℕ → Type 0
+AtMost b n = (b .low ≤ n) × (b .high ≤ n)

@@ -1,0 +1,30 @@
+-- The column of the class table and the flag.
+use mathlib.Core.Bool.{Bool, cond}
+use mathlib.Core.List.{List, [], _∷_}
+use Prim.Native.Nat.{ℕ, suc, _-_}
+use lib.Dec.{leb, ltb}
+use lib.ListN.{getD}
+
+-- the columns' area limits: "65,000; 650,000; 6,500,000; 65,000,000; 650,000,000 square centimetres"
+abbrev pub limits : List ℕ
+limits = 65000 ∷ 650000 ∷ 6500000 ∷ 65000000 ∷ 650000000 ∷ []
+
+abbrev pub lastLimit : ℕ
+lastLimit = 650000000
+
+-- the first entry of a table that passes a test, counted from k; 0 where none does
+abbrev pub firstFrom : (ℕ → Bool) → ℕ → List ℕ → ℕ
+firstFrom p k [] = 0
+firstFrom p k (x ∷ xs) = cond (p x) k (firstFrom p (suc k) xs)
+
+-- the first column whose limit passes a test
+unfoldable pub columnBy : (ℕ → Bool) → ℕ
+columnBy p = firstFrom p 1 limits
+
+-- "The column is the first whose area limit is at least the high area"
+unfoldable pub columnOf : ℕ → ℕ
+columnOf high = columnBy (leb high)
+
+-- "The flag is 1 when the column isn't the first and the low area is at most the limit before it, otherwise 0."
+unfoldable pub flagOf : ℕ → ℕ → ℕ
+flagOf low column = cond (ltb 1 column) (cond (leb low (getD limits (column - 2) 0)) 1 0) 0

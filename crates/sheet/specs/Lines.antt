@@ -1,0 +1,63 @@
+-- Lines 1 to 6 of the sheet, "in whole numbers, each low and high. Lengths are micrometres; a is w + 600, in millimetres."
+use mathlib.Core.Bool.{cond}
+use Prim.Native.Nat.{ℕ, _+_, _-_, _*_, _/_}
+use lib.Dec.{ltb}
+use Rattle.arithmetic.specs.Rounding.{divUp}
+use Rattle.sheet.specs.declared.Bracket.{Bracket}
+
+abbrev pub bracket : ℕ → ℕ → Bracket
+bracket low high = record { low = low; high = high }
+
+-- "1. Glide: low 2,570,666, high 2,570,667."
+abbrev pub glideOf : Bracket
+glideOf = bracket 2570666 2570667
+
+-- "2. Run: v × v × 1,926,617,433 / 10⁹ rounded down; v × v × 1,926,617,434 / 10⁹ rounded up."
+unfoldable pub runOf : ℕ → Bracket
+runOf v = bracket (v * v * 1926617433 / 1000000000) (divUp (v * v * 1926617434) 1000000000)
+
+-- "3. Saving: 39,415,562,351 / m rounded down; 39,415,562,352 / m rounded up."
+unfoldable pub savingOf : ℕ → Bracket
+savingOf m = bracket (39415562351 / m) (divUp 39415562352 m)
+
+-- "4. Slide low: run low less saving high. Slide high: run high less saving low. Zero where negative."
+abbrev pub slideOf : Bracket → Bracket → Bracket
+slideOf run saving = bracket (run .low - saving .high) (run .high - saving .low)
+
+-- "5. T is a × (glide + slide) + 785 × a × a, in thousandths of a square millimetre."
+abbrev pub totalAt : ℕ → ℕ → ℕ → ℕ
+totalAt a glide slide = a * (glide + slide) + 785 * a * a
+
+unfoldable pub totalOf : ℕ → Bracket → Bracket → Bracket
+totalOf a glide slide =
+    bracket (totalAt a (glide .low) (slide .low)) (totalAt a (glide .high) (slide .high))
+
+-- the three area formulas: the whole one "above 8,000 mm", six tenths of it "above 1,000 mm", "otherwise" glide only
+pub data Formula : Type 0 where
+  whole : Formula
+  sixTenths : Formula
+  glideOnly : Formula
+
+abbrev pub formulaOf : ℕ → Formula
+formulaOf w = cond (ltb 8000 w) whole (cond (ltb 1000 w) sixTenths glideOnly)
+
+-- "2 × a × glide + 785 × a × a"
+abbrev pub glideOnlyAt : ℕ → ℕ → ℕ
+glideOnlyAt a glide = 2 * a * glide + 785 * a * a
+
+-- "6. Area in square centimetres, low rounded down and high rounded up: T / 100,000 above 8,000 mm;
+-- 3 × T / 500,000 above 1,000 mm; otherwise (2 × a × glide + 785 × a × a) / 200,000."
+abbrev pub areaNum : Formula → ℕ → ℕ → ℕ → ℕ
+areaNum whole a glide total = total
+areaNum sixTenths a glide total = 3 * total
+areaNum glideOnly a glide total = glideOnlyAt a glide
+
+abbrev pub areaDen : Formula → ℕ
+areaDen whole = 100000
+areaDen sixTenths = 500000
+areaDen glideOnly = 200000
+
+unfoldable pub areaOf : Formula → ℕ → Bracket → Bracket → Bracket
+areaOf f a glide total =
+    bracket (areaNum f a (glide .low) (total .low) / areaDen f)
+    (divUp (areaNum f a (glide .high) (total .high)) (areaDen f))

@@ -1,0 +1,129 @@
+// The aircraft's sheet (document 01, "The aircraft and its area").
+ghost use mathlib.Core.Path.{_≡_};
+ghost use Prim.Native.Nat.{_≤_, _<_};
+ghost use Rattle.sheet.specs.Ranges.{dimensionMax, massMax, speedMax};
+ghost use Rattle.sheet.specs.Sheet.{linesOf, zeroSheet, refusedSheet, sheetOf};
+
+mod column;
+mod lines;
+
+use crate::column::column;
+use crate::column::flag;
+use crate::lines::area;
+use crate::lines::glide;
+use crate::lines::run;
+use crate::lines::saving;
+use crate::lines::slide;
+use crate::lines::total;
+
+// A line of the sheet: a number at most the exact one, and a number at least the exact one.
+#[repr(C)]
+pub struct Bracket {
+    pub low: u64,
+    pub high: u64,
+}
+
+// Lines 1 to 6, the column and the flag. Lengths are in micrometres, the total (T of document 01) in thousandths of a square
+// millimetre, the area in square centimetres.
+#[repr(C)]
+pub struct Sheet {
+    pub glide: Bracket,
+    pub run: Bracket,
+    pub saving: Bracket,
+    pub slide: Bracket,
+    pub total: Bracket,
+    pub area: Bracket,
+    pub column: u8,
+    pub flag: u8,
+}
+
+// A refusal number, 0 for none, and the sheet, all zeros where it is refused.
+#[repr(C)]
+pub struct SheetAnswer {
+    pub refusal: u8,
+    pub sheet: Sheet,
+}
+
+impl Sheet {
+    // millimetres
+    pub const DIMENSION_MIN: u32 = 50;
+
+    pub const DIMENSION_MAX: u32 = 100_000;
+
+    // grams
+    pub const MASS_MIN: u32 = 50;
+
+    pub const MASS_MAX: u32 = 25_000_000;
+
+    // centimetres a second; the lowest speed is 0
+    pub const SPEED_MAX: u32 = 40_000;
+
+    // The sheet of a refused aircraft.
+    pub fn refused() -> Sheet
+        ensures { λ r. ⌜ r ≡ zeroSheet ⌝ }
+    {
+        let zero = Bracket { low: 0, high: 0 };
+        Sheet {
+            glide: zero,
+            run: zero,
+            saving: zero,
+            slide: zero,
+            total: zero,
+            area: zero,
+            column: 0,
+            flag: 0,
+        }
+    }
+}
+
+// The sheet of an aircraft within its ranges.
+fn sheet_in_range(dimension: u64, mass: u64, speed: u64) -> Sheet
+    requires { ⌜ (dimension ≤ dimensionMax) × (0 < mass) × (mass ≤ massMax) × (speed ≤ speedMax) ⌝ }
+    ensures { λ r. ⌜ r ≡ linesOf dimension mass speed ⌝ }
+{
+    let glide = glide();
+    let run = run(speed);
+    let saving = saving(mass);
+    let slide = slide(run, saving);
+    let total = total(dimension + 600, glide, slide);
+    let area = area(dimension, glide, total);
+    let column = column(area.high);
+    let flag = flag(area.low, column);
+    Sheet {
+        glide,
+        run,
+        saving,
+        slide,
+        total,
+        area,
+        column,
+        flag,
+    }
+}
+
+fn refused_with(refusal: u8) -> SheetAnswer
+    ensures { λ r. ⌜ r ≡ refusedSheet refusal ⌝ }
+{
+    let sheet = Sheet::refused();
+    SheetAnswer { refusal, sheet }
+}
+
+// The sheet of an aircraft: dimension in mm, mass in g, speed in cm/s. Refusals: 1 dimension, 2 mass, 3 speed, 4 area.
+pub fn sheet_of(dimension: u32, mass: u32, speed: u32) -> SheetAnswer
+    ensures { λ r. ⌜ r ≡ sheetOf dimension mass speed ⌝ }
+{
+    if (dimension < Sheet::DIMENSION_MIN) | (Sheet::DIMENSION_MAX < dimension) {
+        return refused_with(1);
+    }
+    if (mass < Sheet::MASS_MIN) | (Sheet::MASS_MAX < mass) {
+        return refused_with(2);
+    }
+    if Sheet::SPEED_MAX < speed {
+        return refused_with(3);
+    }
+    let sheet = sheet_in_range(dimension as u64, mass as u64, speed as u64);
+    if column::LAST_LIMIT < sheet.area.high {
+        return refused_with(4);
+    }
+    SheetAnswer { refusal: 0, sheet }
+}

@@ -1,0 +1,105 @@
+// Lines 1 to 6 of the sheet. `a` is document 01's a, the dimension and 600 mm.
+ghost use mathlib.Core.Path.{_≡_};
+ghost use Prim.Native.Nat.{_+_, _/_, _≤_, _<_};
+ghost use Rattle.arithmetic.specs.Rounding.{divUp};
+ghost use Rattle.sheet.specs.Ranges.{dimensionMax, speedMax};
+ghost use Rattle.sheet.specs.Bounds.{aMax, glideMax, slideMax, totalMax, AtMost};
+ghost use Rattle.sheet.specs.Lines.{bracket, glideOf, runOf, savingOf, slideOf, totalAt, totalOf, glideOnlyAt, formulaOf, areaOf};
+use crate::Bracket;
+use arithmetic::difference_or_zero;
+use arithmetic::div_up;
+
+// Above the first dimension the whole area formula is taken, above the second six tenths of it; in mm.
+const WHOLE_ABOVE: u64 = 8_000;
+
+const SIX_TENTHS_ABOVE: u64 = 1_000;
+
+pub fn glide() -> Bracket
+    ensures { λ r. ⌜ r ≡ glideOf ⌝ }
+{
+    Bracket {
+        low: 2_570_666,
+        high: 2_570_667,
+    }
+}
+
+pub fn run(speed: u64) -> Bracket
+    requires { ⌜ speed ≤ speedMax ⌝ }
+    ensures { λ r. ⌜ r ≡ runOf speed ⌝ }
+{
+    let low = speed * speed * 1_926_617_433 / 1_000_000_000;
+    let high = div_up(speed * speed * 1_926_617_434, 1_000_000_000);
+    Bracket { low, high }
+}
+
+pub fn saving(mass: u64) -> Bracket
+    requires { ⌜ 0 < mass ⌝ }
+    ensures { λ r. ⌜ r ≡ savingOf mass ⌝ }
+{
+    let low = 39_415_562_351 / mass;
+    let high = div_up(39_415_562_352, mass);
+    Bracket { low, high }
+}
+
+// The low slide takes the high saving, and the high slide the low one, so that the exact slide lies between.
+pub fn slide(run: Bracket, saving: Bracket) -> Bracket
+    ensures { λ r. ⌜ r ≡ slideOf run saving ⌝ }
+{
+    let low = difference_or_zero(run.low, saving.high);
+    let high = difference_or_zero(run.high, saving.low);
+    Bracket { low, high }
+}
+
+// T at one end of the lines.
+fn total_at(a: u64, glide: u64, slide: u64) -> u64
+    requires { ⌜ (a ≤ aMax) × (glide ≤ glideMax) × (slide ≤ slideMax) ⌝ }
+    ensures { λ r. ⌜ r ≡ totalAt a glide slide ⌝ }
+{
+    a * (glide + slide) + 785 * a * a
+}
+
+pub fn total(a: u64, glide: Bracket, slide: Bracket) -> Bracket
+    requires { ⌜ (a ≤ aMax) × AtMost glide glideMax × AtMost slide slideMax ⌝ }
+    ensures { λ r. ⌜ r ≡ totalOf a glide slide ⌝ }
+{
+    let low = total_at(a, glide.low, slide.low);
+    let high = total_at(a, glide.high, slide.high);
+    Bracket { low, high }
+}
+
+// The numerator of the formula without slide, at one end of the lines.
+fn glide_only_at(a: u64, glide: u64) -> u64
+    requires { ⌜ (a ≤ aMax) × (glide ≤ glideMax) ⌝ }
+    ensures { λ r. ⌜ r ≡ glideOnlyAt a glide ⌝ }
+{
+    2 * a * glide + 785 * a * a
+}
+
+// A numerator's two ends over one denominator, the low one rounded down and the high one up.
+fn rounded(low: u64, high: u64, denominator: u64) -> Bracket
+    requires { ⌜ 0 < denominator ⌝ }
+    ensures { λ r. ⌜ r ≡ bracket (low / denominator) (divUp high denominator) ⌝ }
+{
+    let down = low / denominator;
+    let up = div_up(high, denominator);
+    Bracket {
+        low: down,
+        high: up,
+    }
+}
+
+pub fn area(dimension: u64, glide: Bracket, total: Bracket) -> Bracket
+    requires { ⌜ (dimension ≤ dimensionMax) × AtMost glide glideMax × AtMost total totalMax ⌝ }
+    ensures { λ r. ⌜ r ≡ areaOf (formulaOf dimension) (dimension + 600) glide total ⌝ }
+{
+    let a = dimension + 600;
+    if WHOLE_ABOVE < dimension {
+        return rounded(total.low, total.high, 100_000);
+    }
+    if SIX_TENTHS_ABOVE < dimension {
+        return rounded(3 * total.low, 3 * total.high, 500_000);
+    }
+    let low = glide_only_at(a, glide.low);
+    let high = glide_only_at(a, glide.high);
+    rounded(low, high, 200_000)
+}
