@@ -1,9 +1,9 @@
 -- `sheet_of` gives the sheet or its refusal.
+use mathlib.Core.Path.{_∙_}
 use native.Mathlib.Omega.{arith}
-use borrow.Author.Tests.{le-ltb, lt-ltb}
 use Rattle.arithmetic.proofs.TestLaws.{inside}
 use Rattle.sheet.specs.Ranges.{dimensionMin, dimensionMax, massMin, massMax}
-use Rattle.sheet.specs.Sheet.{sheetOf}
+use Rattle.sheet.proofs.WaysOut.{refused-1, refused-2, refused-3, refused-4, given}
 use borrow.Author.Needs.{needs}
 use Rattle.sheet.proofs.sheet_of.Statement.{statement}
 use Rattle.sheet.proofs.sheet_of.Tie as tie
@@ -12,22 +12,19 @@ refused-with-requires : tie.Need-refused-with-requires
 refused-with-requires c κs = search needs
 
 returns : tie.Need-returns
-unfolding sheetOf
-returns c = simp (c .before .if1 .taken) (cc)
+returns c = c .refused-with .ensures ∙ refused-1 _ _ _ (c .before .if1 .taken)
 
 refused-with-requires-2 : tie.Need-refused-with-requires-2
 refused-with-requires-2 c κs = search needs
 
 returns-2 : tie.Need-returns-2
-unfolding sheetOf
-returns-2 c = simp (c .before .before .if1 .left, c .before .if2 .taken) (cc)
+returns-2 c = c .refused-with2 .ensures ∙ refused-2 _ _ _ (c .before .before .if1 .left) (c .before .if2 .taken)
 
 refused-with-requires-3 : tie.Need-refused-with-requires-3
 refused-with-requires-3 c κs = search needs
 
 returns-3 : tie.Need-returns-3
-unfolding sheetOf
-returns-3 c = simp (c .before .before .before .if1 .left, c .before .before .if2 .left, lt-ltb _ _ (c .before .if3 .taken)) (cc)
+returns-3 c = c .refused-with3 .ensures ∙ refused-3 _ _ _ (c .before .before .before .if1 .left) (c .before .before .if2 .left) (c .before .if3 .taken)
 
 sheet-in-range-requires : tie.Need-sheet-in-range-requires
 sheet-in-range-requires c κs =
@@ -38,16 +35,10 @@ refused-with-requires-4 : tie.Need-refused-with-requires-4
 refused-with-requires-4 c κs = search needs
 
 returns-4 : tie.Need-returns-4
-unfolding sheetOf
-returns-4 c =
-    let b = c .before .before .before .before in
-    simp (b .before .before .if1 .left, b .before .if2 .left, le-ltb _ _ (b .if3 .left), ← (c .before .before .before .sheet-in-range .ensures), lt-ltb _ _ (c .before .if4 .taken)) (cc)
+returns-4 c = let b = c .before .before .before .before in c .refused-with4 .ensures ∙ refused-4 _ _ _ (b .before .before .if1 .left) (b .before .if2 .left) (b .if3 .left) (c .before .before .before .sheet-in-range .ensures) (c .before .if4 .taken)
 
 returns-5 : tie.Need-returns-5
-unfolding sheetOf
-returns-5 c =
-    let b = c .before .before .before in
-    simp (b .before .before .if1 .left, b .before .if2 .left, le-ltb _ _ (b .if3 .left), ← (c .before .before .sheet-in-range .ensures), le-ltb _ _ (c .if4 .left))
+returns-5 c = let b = c .before .before .before in given _ _ _ (b .before .before .if1 .left) (b .before .if2 .left) (b .if3 .left) (c .before .before .sheet-in-range .ensures) (c .if4 .left)
 
 pub sheet-of-spec : {M : Type 1} → statement M
 sheet-of-spec =

@@ -1,6 +1,6 @@
 -- `area` gives line 6.
-use borrow.Author.Tests.{le-ltb, lt-ltb}
 use Rattle.sheet.specs.Lines.{areaOf}
+use Rattle.sheet.proofs.WaysOut.{takes-whole, takes-six-tenths, takes-glide-only}
 use borrow.Author.Needs.{needs}
 use Rattle.sheet.proofs.lines.area.Statement.{statement}
 use Rattle.sheet.proofs.lines.area.Tie as tie
@@ -13,7 +13,7 @@ rounded-requires c κs = search needs
 
 returns : tie.Need-returns
 unfolding areaOf
-returns c = simp (lt-ltb _ _ (c .before .if1 .taken)) (cc)
+returns c = simp (takes-whole _ (c .before .if1 .taken)) (cc)
 
 mul-rounded : tie.Need-mul-rounded
 mul-rounded c = search needs
@@ -26,7 +26,7 @@ rounded-requires-2 c κs = search needs
 
 returns-2 : tie.Need-returns-2
 unfolding areaOf
-returns-2 c = simp (le-ltb _ _ (c .before .before .before .before .if1 .left), lt-ltb _ _ (c .before .before .before .if2 .taken)) (cc)
+returns-2 c = simp (takes-six-tenths _ (c .before .before .before .before .if1 .left) (c .before .before .before .if2 .taken)) (cc)
 
 glide-only-at-requires : tie.Need-glide-only-at-requires
 glide-only-at-requires c κs = search needs
@@ -39,7 +39,7 @@ rounded-requires-3 c κs = search needs
 
 returns-3 : tie.Need-returns-3
 unfolding areaOf
-returns-3 c = simp (le-ltb _ _ (c .before .before .before .before .if1 .left), le-ltb _ _ (c .before .before .before .if2 .left)) (cc)
+returns-3 c = simp (takes-glide-only _ (c .before .before .before .before .if1 .left) (c .before .before .before .if2 .left)) (cc)
 
 pub area-spec : {M : Type 1} → statement M
 area-spec =

@@ -1,0 +1,4 @@
+pub mod Between
+pub mod Width
+pub mod ExactColumn
+pub mod AccuracyHolds

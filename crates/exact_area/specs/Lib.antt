@@ -1,0 +1,2 @@
+pub mod ExactArea
+pub mod Accuracy
