@@ -1,3 +1,4 @@
 pub mod TestLaws
 pub mod RoundingLaws
 pub mod FractionLaws
+pub mod SumLaws

@@ -1,12 +1,14 @@
--- Laws of tests: two numbers compared, tests joined by "or" and "and", a choice by a test, a test at every index.
+-- Laws of tests: two numbers compared, tests joined by "or" and "and", a choice by a test, a ladder of refusals, a test at each or at some index.
 use mathlib.Core.Path.{_≡_, refl, sym, ap, _∙_}
 use mathlib.Core.Logic.{_⊎_, inl, inr, ⊎-elim}
-use mathlib.Core.Bool.{Bool, true, false, cond, _||_, _&&_, true≢false, false≢true}
-use Prim.Native.Nat.{ℕ, zero, suc, _≤_, _<_}
+use mathlib.Core.Bool.{Bool, true, false, cond, _||_, _&&_, true≢false, false≢true, or-true}
+use Prim.Native.Nat.{ℕ, zero, suc, _+_, _≤_, _<_}
 use native.Mathlib.Nat.{not-suc-le-zero, eq-or-lt-of-le, le-of-suc-le-suc}
-use borrow.Author.Tests.{ltb-true, ltb-false, le-ltb}
+use native.Mathlib.Numerals.{add-one}
+use native.Mathlib.Omega.{arith}
+use borrow.Author.Tests.{le-ltb, ltb-true, ltb-false}
 use lib.Dec.{ltb}
-use Rattle.arithmetic.specs.Ranges.{outside}
+use Rattle.arithmetic.specs.Tests.{outside, anyBelow}
 
 pub lt-or-le : (a b : ℕ) → (a < b) ⊎ (b ≤ a)
 lt-or-le a b = by-test (ltb a b) refl
@@ -30,11 +32,62 @@ pub cond-le : (t : Bool) {a b k : ℕ} → a ≤ k → b ≤ k → cond t a b �
 cond-le true h l = h
 cond-le false h l = l
 
--- a number that is not outside a range is within it, and the other way round
-pub inside : (lowest highest n : ℕ) → outside lowest highest n ≡ false → (lowest ≤ n) × (n ≤ highest)
-inside lowest highest n e =
-    let h = neither (ltb n lowest) (ltb highest n) e
-    in (ltb-false n lowest (h .0), ltb-false highest n (h .1))
+pub le-cond : (t : Bool) {a b k : ℕ} → k ≤ a → k ≤ b → k ≤ cond t a b
+le-cond true h l = h
+le-cond false h l = l
 
-pub not-outside : (lowest highest n : ℕ) → lowest ≤ n → n ≤ highest → outside lowest highest n ≡ false
-not-outside lowest highest n h k = simp (le-ltb n lowest h, le-ltb highest n k)
+-- a step of a ladder of refusals that gives none: its test failed, and the rest gives none
+pub not-refused : (t : Bool) (n rest : ℕ) → cond t (suc n) rest ≡ 0 → (t ≡ false) × (rest ≡ 0)
+not-refused true n rest e = let h : ⊥ = omega arith in absurd h
+not-refused false n rest e = (refl, e)
+
+-- a number in its range
+pub inside : (low high n : ℕ) → outside low high n ≡ false → (low ≤ n) × (n ≤ high)
+inside low high n e =
+    let h = neither (ltb n low) (ltb high n) e in (ltb-false n low (h .0), ltb-false high n (h .1))
+
+pub not-outside : (low high n : ℕ) → low ≤ n → n ≤ high → outside low high n ≡ false
+not-outside low high n h l = simp (le-ltb n low h, le-ltb high n l)
+
+-- a test at each of 0, .., n - 1, to be computed over a table
+abbrev pub allBelow : (ℕ → Bool) → ℕ → Bool
+allBelow p zero = true
+allBelow p (suc n) = p n && allBelow p n
+
+pub all-below : (p : ℕ → Bool) (n : ℕ) → allBelow p n ≡ true → (i : ℕ) → i < n → p i ≡ true
+all-below p zero t i l = absurd (not-suc-le-zero l)
+all-below p (suc n) t i l =
+    let h = both (p n) (allBelow p n) t in
+    ⊎-elim (λ e. ap p e ∙ h .0) (λ (k : i < n). all-below p n (h .1) i k) (eq-or-lt-of-le (le-of-suc-le-suc l))
+
+-- ---- a test at some index
+
+module _ (p : ℕ → Bool) where
+  -- one index more, as the code counts
+  pub any-next : (n : ℕ) → (anyBelow p n || p n) ≡ anyBelow p (n + 1)
+  unfolding anyBelow
+  any-next n = rw (add-one n)
+
+  pub any-some : (n : ℕ) → anyBelow p n ≡ true → (i : ℕ) × (i < n) × (p i ≡ true)
+  unfolding anyBelow
+  any-some zero e = absurd (false≢true e)
+  any-some (suc n) e = by-test (anyBelow p n) refl (any-some n)
+    where
+      by-test : (t : Bool) → anyBelow p n ≡ t → (anyBelow p n ≡ true → (i : ℕ) × (i < n) × (p i ≡ true))
+          → (i : ℕ) × (i < suc n) × (p i ≡ true)
+      by-test true h rest = let r = rest h in (r .0, omega (arith, r .1), r .2)
+      by-test false h rest = (n, omega arith, sym (ap (λ (t : Bool). t || p n) h) ∙ e)
+
+  pub any-is : (n i : ℕ) → i < n → p i ≡ true → anyBelow p n ≡ true
+  unfolding anyBelow
+  any-is zero i l h = absurd (not-suc-le-zero l)
+  any-is (suc n) i l h =
+      ⊎-elim (λ e. ap (λ (t : Bool). anyBelow p n || t) (sym (ap p e) ∙ h) ∙ or-true (anyBelow p n))
+      (λ (k : i < n). ap (λ (t : Bool). t || p n) (any-is n i k h)) (eq-or-lt-of-le (le-of-suc-le-suc l))
+
+  pub any-none : (n : ℕ) → anyBelow p n ≡ false → (i : ℕ) → i < n → p i ≡ false
+  any-none n h i l = by-test (p i) refl
+    where
+      by-test : (t : Bool) → p i ≡ t → p i ≡ false
+      by-test true e = absurd (true≢false (sym (any-is n i l e) ∙ h))
+      by-test false e = e

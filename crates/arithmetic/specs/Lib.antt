@@ -1,4 +1,5 @@
+pub mod Tests
 pub mod Rounding
 pub mod Fraction
-pub mod Ranges
+pub mod SumsAndMaxima
 pub mod Each

@@ -6,7 +6,7 @@ use Prim.Native.Nat.{ℕ, _≤_, _<_}
 use native.Mathlib.Nat.{le-refl}
 use lib.Dec.{ltb, lit≤}
 use borrow.Author.Tests.{ltb-true, ltb-false, lt-ltb, le-ltb}
-use Rattle.arithmetic.specs.Ranges.{outside}
+use Rattle.arithmetic.specs.Tests.{outside}
 use Rattle.arithmetic.proofs.TestLaws.{inside, not-outside}
 use Rattle.sheet.specs.Ranges.{dimensionMin, dimensionMax, massMin, massMax, speedMax, InRange}
 use Rattle.sheet.specs.Column.{lastLimit}

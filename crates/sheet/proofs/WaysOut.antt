@@ -3,7 +3,7 @@ use mathlib.Core.Path.{_≡_, refl}
 use mathlib.Core.Bool.{true, false}
 use Prim.Native.Nat.{ℕ, _≤_, _<_}
 use borrow.Author.Tests.{lt-ltb, le-ltb}
-use Rattle.arithmetic.specs.Ranges.{outside}
+use Rattle.arithmetic.specs.Tests.{outside}
 use Rattle.sheet.specs.Ranges.{dimensionMin, dimensionMax, massMin, massMax, speedMax}
 use Rattle.sheet.specs.Lines.{whole, sixTenths, glideOnly, formulaOf}
 use Rattle.sheet.specs.Column.{lastLimit}

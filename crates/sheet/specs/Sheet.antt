@@ -2,7 +2,7 @@
 use mathlib.Core.Bool.{cond}
 use Prim.Native.Nat.{ℕ, _+_}
 use lib.Dec.{ltb}
-use Rattle.arithmetic.specs.Ranges.{outside}
+use Rattle.arithmetic.specs.Tests.{outside}
 use Rattle.sheet.specs.Ranges.{dimensionMin, dimensionMax, massMin, massMax, speedMax}
 use Rattle.sheet.specs.Lines.{bracket, glideOf, runOf, savingOf, slideOf, totalOf, formulaOf, areaOf}
 use Rattle.sheet.specs.Column.{lastLimit, columnOf, flagOf}

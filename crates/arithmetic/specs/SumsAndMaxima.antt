@@ -1,0 +1,19 @@
+-- The sum, the maximum and the first maximum of f over the indices 0, 1, .., n - 1.
+use mathlib.Core.Bool.{cond}
+use Prim.Native.Nat.{ℕ, zero, suc, _+_, max}
+use lib.Dec.{ltb}
+
+-- f 0 + f 1 + .. + f (n - 1)
+unfoldable pub sumBelow : (ℕ → ℕ) → ℕ → ℕ
+sumBelow f zero = 0
+sumBelow f (suc n) = sumBelow f n + f n
+
+-- the largest of f 0, .., f (n - 1), and 0 where n is 0
+unfoldable pub maxBelow : (ℕ → ℕ) → ℕ → ℕ
+maxBelow f zero = 0
+maxBelow f (suc n) = max (maxBelow f n) (f n)
+
+-- the first index below n at which f is largest, and 0 where f is 0 throughout
+unfoldable pub firstMaxBelow : (ℕ → ℕ) → ℕ → ℕ
+firstMaxBelow f zero = 0
+firstMaxBelow f (suc n) = cond (ltb (maxBelow f n) (f n)) n (firstMaxBelow f n)

@@ -1,0 +1,3 @@
+pub mod CellLaws
+pub mod WalkLaws
+pub mod AnswerLaws

@@ -1,0 +1,174 @@
+-- Laws of the walk: what a map row's loop leaves, a map row lent as a part, the map with one row more, and the answer from the whole.
+use mathlib.Core.Path.{_≡_, refl, sym, ap, ap₂, _∙_}
+use mathlib.Core.Bool.{Bool, false, cond}
+use mathlib.Core.List.{List}
+use Prim.Native.Nat.{ℕ, zero, suc, _+_, _-_, _*_, _/_, _%_, _^_, _≤_, _<_}
+use native.Mathlib.Nat.{zero-div, zero-mul, le-trans, le-refl, le-of-suc-le-suc}
+use native.Mathlib.Omega.{arith}
+use borrow.Author.Tests.{ltb-false}
+use lib.Count.{ones}
+use lib.Dec.{ltb}
+use lib.ListN.{length, getD, take, drop, length-take, length-drop}
+use lib.Seq.{getD-take, getD-drop}
+use Rattle.arithmetic.specs.SumsAndMaxima.{sumBelow, maxBelow, firstMaxBelow}
+use Rattle.arithmetic.proofs.TestLaws.{any-none}
+use Rattle.arithmetic.proofs.SumLaws.{sum-same, max-same, first-same, sum-add, max-add, first-next, sum-le, max-le, first-lt, first-at, max-rows, first-rows, firstInRow}
+use Rattle.footprint.specs.Map.{mapCells, mapRows, rowCells, largestCount, countAt, bitAt, markAt, keyAt, tableRow, highestRow, firstLargest, cellsIn, wrongCount, foundFootprint}
+use Rattle.footprint.specs.Walk.{rowKey, rowWalk, withRow, rowWorst, mapWalk}
+use Rattle.footprint.specs.declared.Footprint.{Footprint}
+use Rattle.footprint.specs.declared.walk.RowWalk.{RowWalk}
+use Rattle.footprint.specs.declared.walk.MapWalk.{MapWalk}
+use Rattle.footprint.proofs.CellLaws.{mark-lt, marked-le, ones-of-row, sum-keys, no-key, rowOfKey, row-of-largest}
+
+-- every count is in its range where the test of refusal 7 failed
+pub counts-small : (counts : List ℕ) → wrongCount counts ≡ false → (i : ℕ) → i < mapCells → countAt counts i ≤ largestCount
+counts-small counts h i l =
+    ltb-false largestCount (countAt counts i) (any-none (λ p. ltb largestCount (countAt counts p)) mapCells h i l)
+
+-- ---- a map row, from what its loop leaves
+
+module _ (counts : List ℕ) (bits : ℕ) {sum : ℕ} (small : bits < 2 ^ 64) (s : sum ≡ sumBelow (rowKey counts bits) rowCells) where
+  keys : sum ≡ sumBelow (λ c. bitAt bits c * countAt counts c) rowCells + ones bits
+  keys =
+      s ∙ sum-keys (bitAt bits) (countAt counts) rowCells
+      ∙ ap (λ (x : ℕ). sumBelow (λ c. bitAt bits c * countAt counts c) rowCells + x) (sym (ones-of-row bits small))
+
+  pub cells-le : ones bits ≤ sum
+  cells-le = omega (arith, keys)
+
+  pub row-is : {worst : ℕ} → worst ≡ maxBelow (rowKey counts bits) rowCells
+      → record { worst = worst; people = sum - ones bits; cells = ones bits } ≡ rowWalk counts bits
+  row-is t =
+      let p : sum - ones bits ≡ sumBelow (λ c. bitAt bits c * countAt counts c) rowCells = omega (arith, keys) in
+      let e = ones-of-row bits small in λ i. record { worst = t i; people = p i; cells = e i }
+
+-- a map row with no mark
+module _ (counts : List ℕ) where
+  clear : (c : ℕ) → bitAt 0 c ≡ 0
+  clear c = ap (λ (x : ℕ). x % 2) (zero-div (2 ^ (63 - c)))
+
+  clear-le : (c x : ℕ) → bitAt 0 c * x ≤ 0
+  clear-le c x = rw (clear c) (omega arith)
+
+  pub row-empty : record { worst = 0; people = 0; cells = 0 } ≡ rowWalk counts 0
+  row-empty =
+      let t : 0 ≡ maxBelow (rowKey counts 0) rowCells =
+      omega (arith, max-le (rowKey counts 0) 0 rowCells (λ c l. clear-le c (countAt counts c + 1))) in
+      let p : 0 ≡ sumBelow (λ c. bitAt 0 c * countAt counts c) rowCells =
+      omega (arith, sum-le (λ c. bitAt 0 c * countAt counts c) 0 rowCells (λ c l. clear-le c (countAt counts c))) in
+      let k : 0 ≡ sumBelow (bitAt 0) rowCells =
+      omega (arith, sum-le (bitAt 0) 0 rowCells (λ c l. omega (arith, clear c))) in
+      λ i. record { worst = t i; people = p i; cells = k i }
+
+-- ---- a map row lent as a part of the map's counts
+
+module _ (counts marks : List ℕ) (r : ℕ) where
+  abbrev pub lent : List ℕ
+  lent = take (rowCells * r + rowCells - rowCells * r) (drop (rowCells * r) counts)
+
+  pub lent-at : (i : ℕ) → i < rowCells → countAt lent i ≡ countAt counts (rowCells * r + i)
+  lent-at i l =
+      getD-take (rowCells * r + rowCells - rowCells * r) (drop (rowCells * r) counts) i 0 (omega arith)
+      ∙ getD-drop (rowCells * r) counts i 0
+
+  pub lent-length : rowCells * r + rowCells ≤ length counts → length lent ≡ rowCells
+  lent-length h =
+      let k : rowCells * r + rowCells - rowCells * r ≡ rowCells = omega arith in simp (k, length-take, length-drop) (omega arith)
+
+  pub lent-small : r < mapRows → wrongCount counts ≡ false → (i : ℕ) → i < rowCells → countAt lent i ≤ largestCount
+  lent-small h s i l = omega (arith, lent-at i l, counts-small counts s (rowCells * r + i) (omega arith))
+
+  mark-here : (i : ℕ) → i < rowCells → bitAt (getD marks r 0) i ≡ markAt marks (rowCells * r + i)
+  mark-here i l =
+      let q : (rowCells * r + i) / rowCells ≡ r = omega arith in
+      let m : (rowCells * r + i) % rowCells ≡ i = omega arith in rw (q, m)
+
+  key-here : (i : ℕ) → i < rowCells → rowKey lent (getD marks r 0) i ≡ keyAt counts marks (rowCells * r + i)
+  key-here i l = ap₂ (λ (m x : ℕ). m * (x + 1)) (mark-here i l) (lent-at i l)
+
+  pub first-here : firstMaxBelow (rowKey lent (getD marks r 0)) rowCells ≡ firstMaxBelow (λ c. keyAt counts marks (rowCells * r + c)) rowCells
+  first-here = first-same (rowKey lent (getD marks r 0)) (λ c. keyAt counts marks (rowCells * r + c)) rowCells key-here
+
+  pub worst-here : maxBelow (rowKey lent (getD marks r 0)) rowCells ≡ rowWorst counts marks r
+  worst-here = max-same (rowKey lent (getD marks r 0)) (λ c. keyAt counts marks (rowCells * r + c)) rowCells key-here
+
+  row-here : rowWalk lent (getD marks r 0) ≡ record {
+    worst = rowWorst counts marks r;
+    people = sumBelow (λ c. markAt marks (rowCells * r + c) * countAt counts (rowCells * r + c)) rowCells;
+    cells = sumBelow (λ c. markAt marks (rowCells * r + c)) rowCells;
+  }
+  row-here =
+      let t = worst-here in
+      let p = sum-same (λ c. bitAt (getD marks r 0) c * countAt lent c) (λ c. markAt marks (rowCells * r + c) * countAt counts (rowCells * r + c)) rowCells
+      (λ i l. ap₂ (λ (m x : ℕ). m * x) (mark-here i l) (lent-at i l)) in
+      let k = sum-same (bitAt (getD marks r 0)) (λ c. markAt marks (rowCells * r + c)) rowCells mark-here in
+      λ i. record { worst = t i; people = p i; cells = k i }
+
+  -- ---- the map with one row more
+
+  module _ {w : MapWalk} {b : RowWalk} (before : w ≡ mapWalk counts marks r) (row : b ≡ rowWalk lent (getD marks r 0)) where
+    pub map-next : withRow w b r ≡ mapWalk counts marks (r + 1)
+    map-next =
+        let e : rowCells * r + rowCells ≡ rowCells * (r + 1) = omega arith in
+        let t = sym (max-add (keyAt counts marks) (rowCells * r) rowCells) ∙ ap (maxBelow (keyAt counts marks)) e in
+        let p = sym (sum-add (λ p. markAt marks p * countAt counts p) (rowCells * r) rowCells) ∙ ap (sumBelow (λ p. markAt marks p * countAt counts p)) e in
+        let k = sym (sum-add (markAt marks) (rowCells * r) rowCells) ∙ ap (sumBelow (markAt marks)) e in
+        let s = ap (λ (x : ℕ). cond (ltb x (rowWorst counts marks r)) r (firstMaxBelow (rowWorst counts marks) r)) (sym (max-rows (keyAt counts marks) rowCells r))
+        ∙ sym (first-next (rowWorst counts marks) r) in
+        ap₂ (λ (x : MapWalk) (y : RowWalk). withRow x y r) before (row ∙ row-here) ∙ (λ i. record { worst = t i; row = s i; people = p i; cells = k i })
+
+    -- the sums fit their types
+    pub map-fits : r < mapRows → ((p : ℕ) → countAt counts p < 2 ^ 32) → (w .people + b .people < 2 ^ 64) × (w .cells + b .cells < 2 ^ 32)
+    map-fits l h = (
+      omega (arith, ap (λ (x : MapWalk). x .people) map-next, sum-le (λ p. markAt marks p * countAt counts p) (2 ^ 32) (rowCells * (r + 1)) (λ i m. le-trans (marked-le (markAt marks i) (countAt counts i) (mark-lt marks i)) (omega (arith, h i)))),
+      omega (arith, ap (λ (x : MapWalk). x .cells) map-next, sum-le (markAt marks) 1 (rowCells * (r + 1)) (λ i m. le-of-suc-le-suc (mark-lt marks i))),
+    )
+
+-- ---- the answer, from the walk over all rows
+
+module _ (counts marks : List ℕ) {w : MapWalk} (w-is : w ≡ mapWalk counts marks mapRows) where
+  pub cells-all : w .cells ≡ cellsIn marks
+  cells-all = ap (λ (x : MapWalk). x .cells) w-is
+
+  pub row-lt : w .row < mapRows
+  row-lt = omega (arith, ap (λ (x : MapWalk). x .row) w-is, first-lt (rowWorst counts marks) mapRows (omega arith))
+
+  module _ (some : 0 < w .cells) where
+    pub worst-pos : 0 < w .worst
+    worst-pos = by-cases (w .worst) refl
+      where
+        by-cases : (n : ℕ) → w .worst ≡ n → 0 < w .worst
+        by-cases zero e =
+            let none = no-key (markAt marks) (countAt counts) mapCells (sym (ap (λ (x : MapWalk). x .worst) w-is) ∙ e) in
+            let wrong : ⊥ = omega (arith, cells-all, none) in absurd wrong
+        by-cases (suc n) e = omega arith
+
+    row-all : (area : ℕ) → tableRow (w .worst - 1) area ≡ highestRow counts marks area
+    row-all area =
+        let e : suc (w .worst - 1) ≡ w .worst = omega (arith, worst-pos) in
+        ap (rowOfKey area) (e ∙ ap (λ (x : MapWalk). x .worst) w-is)
+        ∙ sym (row-of-largest area (markAt marks) (countAt counts) (mark-lt marks) mapCells)
+
+    place-all : rowCells * w .row + firstMaxBelow (rowKey (lent counts marks (w .row)) (getD marks (w .row) 0)) rowCells ≡ firstLargest counts marks
+    place-all =
+        ap (λ (x : ℕ). rowCells * w .row + x) (first-here counts marks (w .row))
+        ∙ ap (firstInRow (keyAt counts marks) rowCells) (ap (λ (x : MapWalk). x .row) w-is)
+        ∙ sym (first-rows (keyAt counts marks) rowCells mapRows (omega (arith, worst-pos, ap (λ (x : MapWalk). x .worst) w-is)))
+
+    -- the first worst row's largest key is the map's
+    pub worst-is : w .worst ≡ maxBelow (rowKey (lent counts marks (w .row)) (getD marks (w .row) 0)) rowCells
+    worst-is =
+        let all : w .worst ≡ maxBelow (rowWorst counts marks) mapRows =
+        ap (λ (x : MapWalk). x .worst) w-is ∙ sym (max-rows (keyAt counts marks) rowCells mapRows) in
+        all ∙ sym (first-at (rowWorst counts marks) mapRows (omega (arith, worst-pos, all)))
+        ∙ ap (rowWorst counts marks) (sym (ap (λ (x : MapWalk). x .row) w-is))
+        ∙ sym (worst-here counts marks (w .row))
+
+    pub answer : (area : ℕ) {row column : ℕ} → row ≡ tableRow (w .worst - 1) area
+        → column ≡ firstMaxBelow (rowKey (lent counts marks (w .row)) (getD marks (w .row) 0)) rowCells
+        → record { refusal = 0; row = row; place = rowCells * w .row + column; people = w .people; cells = w .cells } ≡ foundFootprint counts marks area
+    answer area er ec =
+        let r = er ∙ row-all area in
+        let p = ap (λ (x : ℕ). rowCells * w .row + x) ec ∙ place-all in
+        let s = ap (λ (x : MapWalk). x .people) w-is in
+        λ i. record { refusal = 0; row = r i; place = p i; people = s i; cells = cells-all i }

@@ -1,0 +1,69 @@
+-- `footprint::walk::first_worst` meets its contract. The loop's invariant: no column passed has the largest key.
+use mathlib.Core.Path.{_≡_, sym, _∙_}
+use Prim.Native.Nat.{ℕ, _≤_, _<_, _-_}
+use native.Mathlib.Omega.{arith}
+use borrow.Author.Count.{below-more}
+use Rattle.arithmetic.proofs.SumLaws.{first-is, first-found}
+use Rattle.footprint.specs.Map.{rowCells}
+use Rattle.footprint.specs.Walk.{rowKey}
+use Rattle.footprint.proofs.walk.first_worst.Statement.{statement}
+use Rattle.footprint.proofs.walk.first_worst.Tie as tie
+
+abbrev Inv-loop : tie.InvT-loop
+Inv-loop counts bits worst c₀ c = (c ≤ rowCells) × ((k : ℕ) → k < c → rowKey counts bits k ≡ worst → ⊥)
+
+abbrev μ-loop : tie.MeasureT-loop
+μ-loop counts bits worst c₀ c = rowCells - c
+
+loop-holds : tie.Need-loop-holds Inv-loop μ-loop
+loop-holds c = (omega arith, λ k l. absurd (omega arith))
+
+mul-key : tie.Need-mul-key Inv-loop μ-loop
+mul-key c = omega arith
+
+shared-slice-read-key : tie.Need-shared-slice-read-key Inv-loop μ-loop
+shared-slice-read-key c = omega arith
+
+key-requires : tie.Need-key-requires Inv-loop μ-loop
+key-requires c κs = (omega arith, c .before .before .before .before .pre .1 (c .before .before .loop .c) (omega arith))
+
+returns : tie.Need-returns Inv-loop μ-loop
+returns c =
+    let at = c .before .before .before .before .loop in
+    let start = c .before .before .before .before .before .before in
+    first-is (rowKey (start .args .counts .now) (start .args .bits)) rowCells (start .args .worst) (start .pre .2) (start .pre .3) (at .c) (omega arith) (sym (c .before .key .ensures) ∙ c .if1 .taken) (at .inv .1)
+
+add-c : tie.Need-add-c Inv-loop μ-loop
+add-c c = omega arith
+
+loop-less : tie.Need-loop-less Inv-loop μ-loop
+loop-less c = omega arith
+
+loop-again : tie.Need-loop-again Inv-loop μ-loop
+loop-again c =
+    let at = c .before .before .before .before .loop in
+    (omega arith, below-more _ _ (at .inv .1) (λ e. c .if1 .left (c .before .key .ensures ∙ e)))
+
+-- the loop can't end without an answer
+returns-2 : tie.Need-returns-2 Inv-loop μ-loop
+returns-2 c =
+    let at = c .before .loop in
+    let start = c .before .before .before in
+    let past : at .c ≡ rowCells = omega arith in
+    absurd (first-found (rowKey (start .args .counts .now) (start .args .bits)) rowCells (start .args .worst) (start .pre .2) (start .pre .3) (λ k l. at .inv .1 k (omega arith)) (omega arith))
+
+pub first-worst-spec : {M : Type 1} → statement M
+first-worst-spec =
+    tie.close
+    (tie.spec
+    Inv-loop
+    μ-loop
+    loop-holds
+    mul-key
+    shared-slice-read-key
+    key-requires
+    returns
+    add-c
+    loop-less
+    loop-again
+    returns-2)
