@@ -1,0 +1,38 @@
+-- `risk_class::class_table::intrinsic_class` meets its contract: a law of the answer for each return.
+use mathlib.Core.Path.{_≡_, ap, _∙_}
+use Prim.Native.Nat.{ℕ}
+use native.Mathlib.Omega.{arith}
+use borrow.Author.Needs.{needs}
+use Rattle.risk_class.specs.ClassTable.{classAt, usedRow}
+use Rattle.risk_class.proofs.ClassLaws.{Reading, reading, used-in, refused-reading, refused-none, given}
+use Rattle.risk_class.proofs.class_table.intrinsic_class.Statement.{statement}
+use Rattle.risk_class.proofs.class_table.intrinsic_class.Tie as tie
+
+read-in : (c : tie.Else1) → Reading (c .before .args .column) (c .before .args .row) (c .before .args .controlled)
+read-in c = reading (c .before .args .column) (c .before .args .row) (c .before .args .controlled) (c .if1 .left)
+
+class-is : (c : tie.After-entry)
+    → c .entry .result ≡ classAt (usedRow (c .before .before .before .args .row) (c .before .before .before .args .controlled)) (c .before .before .before .args .column)
+class-is c = c .entry .ensures ∙ ap (λ (r : ℕ). classAt r (c .before .before .before .args .column)) (c .before .used-row .ensures)
+
+returns : tie.Need-returns
+returns c = refused-reading _ _ _ (c .if1 .taken)
+
+used-row-requires : tie.Need-used-row-requires
+used-row-requires c κs = search needs
+
+entry-requires : tie.Need-entry-requires
+entry-requires c κs =
+    let r = read-in (c .before) in
+    let args = c .before .before .args in
+    omega (arith, c .used-row .ensures, used-in (args .row) (args .controlled) (r .row-ge) (r .row-le))
+
+returns-2 : tie.Need-returns-2
+returns-2 c = refused-none _ _ _ (c .before .before .before .if1 .left) (class-is (c .before)) (c .if2 .taken)
+
+returns-3 : tie.Need-returns-3
+returns-3 c = given _ _ _ (c .before .before .before .if1 .left) (class-is (c .before)) (c .if2 .left)
+
+pub intrinsic-class-spec : {M : Type 1} → statement M
+intrinsic-class-spec =
+    tie.close (tie.spec returns used-row-requires entry-requires returns-2 returns-3)

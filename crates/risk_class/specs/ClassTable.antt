@@ -1,0 +1,51 @@
+-- Document 01, "The class table".
+use mathlib.Core.Bool.{Bool, cond, _||_}
+use mathlib.Core.List.{List, [], _∷_}
+use Prim.Native.Nat.{ℕ, _-_}
+use lib.Dec.{ltb, eqb}
+use lib.ListN.{getD}
+use Rattle.arithmetic.specs.Tests.{outside}
+use Rattle.risk_class.specs.declared.class_table.IntrinsicClass.{IntrinsicClass}
+
+-- an entry that is "none"
+abbrev pub noClass : ℕ
+noClass = 0
+
+-- rows 1 to 7, row 1 for controlled ground, of columns 1 to 5
+abbrev pub classTable : List (List ℕ)
+classTable =
+    (1 ∷ 1 ∷ 2 ∷ 3 ∷ 3 ∷ [])
+    ∷ (2 ∷ 3 ∷ 4 ∷ 5 ∷ 6 ∷ [])
+    ∷ (3 ∷ 4 ∷ 5 ∷ 6 ∷ 7 ∷ [])
+    ∷ (4 ∷ 5 ∷ 6 ∷ 7 ∷ 8 ∷ [])
+    ∷ (5 ∷ 6 ∷ 7 ∷ 8 ∷ 9 ∷ [])
+    ∷ (6 ∷ 7 ∷ 8 ∷ 9 ∷ 10 ∷ [])
+    ∷ (7 ∷ 8 ∷ noClass ∷ noClass ∷ noClass ∷ [])
+    ∷ []
+
+unfoldable pub classAt : ℕ → ℕ → ℕ
+classAt row column = getD (getD classTable (row - 1) []) (column - 1) noClass
+
+-- "A controlled-ground mark of 1 puts row 1 in place of the footprint's row; 0 keeps it."
+abbrev pub usedRow : ℕ → ℕ → ℕ
+usedRow row controlled = cond (eqb controlled 1) 1 row
+
+-- "column not 1 to 5"
+abbrev pub wrongColumn : ℕ → Bool
+wrongColumn column = outside 1 5 column
+
+-- "9 column not 1 to 5, row not 2 to 7, or mark not 0 or 1"
+abbrev pub wrongReading : ℕ → ℕ → ℕ → Bool
+wrongReading column row controlled = wrongColumn column || outside 2 7 row || ltb 1 controlled
+
+-- "Class refusals", in the order tested: 9, and "10 the entry is 'none'"; 0 where there is none
+unfoldable pub classRefusal : ℕ → ℕ → ℕ → ℕ
+classRefusal column row controlled =
+    cond (wrongReading column row controlled) 9 (cond (eqb (classAt (usedRow row controlled) column) noClass) 10 0)
+
+-- the intrinsic class; "The answer is zero then", where it is refused
+unfoldable pub intrinsicClassOf : ℕ → ℕ → ℕ → IntrinsicClass
+intrinsicClassOf column row controlled = record {
+  refusal = classRefusal column row controlled;
+  class = cond (eqb (classRefusal column row controlled) 0) (classAt (usedRow row controlled) column) 0;
+}

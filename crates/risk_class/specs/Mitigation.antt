@@ -1,0 +1,69 @@
+-- Document 01, "The mitigation word".
+use mathlib.Core.Bool.{Bool, cond, not, _||_, _&&_}
+use mathlib.Core.List.{List, [], _∷_}
+use Prim.Native.Nat.{ℕ, _+_, _-_, _/_, _%_, _^_, max}
+use lib.Dec.{ltb, eqb}
+use lib.IntN.{ℤ, pos, subℕ}
+use lib.ListN.{getD}
+use lib.Signed.{ltZ}
+use Rattle.arithmetic.specs.Tests.{anyBelow}
+use Rattle.risk_class.specs.ClassTable.{classAt, wrongColumn}
+use Rattle.risk_class.specs.declared.mitigation.FinalClass.{FinalClass}
+
+-- stands for the credit of a digit that isn't offered
+abbrev pub notOffered : ℕ
+notOffered = 255
+
+-- "M1(A) 1 gives 1, 2 gives 2; M1(B) 2 gives 1, 3 gives 2; M1(C) 1 gives 1; M2 2 gives 1, 3 gives 2; 0 gives nothing.
+-- Other digits aren't offered."
+abbrev pub creditTable : List (List ℕ)
+creditTable =
+    (0 ∷ 1 ∷ 2 ∷ notOffered ∷ [])
+    ∷ (0 ∷ notOffered ∷ 1 ∷ 2 ∷ [])
+    ∷ (0 ∷ 1 ∷ notOffered ∷ notOffered ∷ [])
+    ∷ (0 ∷ notOffered ∷ 1 ∷ 2 ∷ [])
+    ∷ []
+
+unfoldable pub creditAt : ℕ → ℕ → ℕ
+creditAt which digit = cond (ltb digit 4) (getD (getD creditTable which []) digit 0) notOffered
+
+-- "Four hexadecimal digits, in order M1(A), M1(B), M1(C), M2": the digits 0 to 3
+abbrev pub digitAt : ℕ → ℕ → ℕ
+digitAt word which = word / 16 ^ (3 - which) % 16
+
+abbrev pub creditOf : ℕ → ℕ → ℕ
+creditOf word which = creditAt which (digitAt word which)
+
+-- "a digit that isn't offered"
+abbrev pub anyNotOffered : ℕ → Bool
+anyNotOffered word =
+    eqb (creditOf word 0) notOffered || eqb (creditOf word 1) notOffered || eqb (creditOf word 2) notOffered || eqb (creditOf word 3) notOffered
+
+-- "an entry of that column", in one of the rows 1 to 7; "none" is no entry
+abbrev pub isEntry : ℕ → ℕ → Bool
+isEntry column class = ltb 0 class && anyBelow (λ i. eqb (classAt (i + 1) column) class) 7
+
+-- "The three M1 credits come off the intrinsic class first, but never below the row 1 entry of the column."
+abbrev pub afterM1 : ℕ → ℕ → ℕ → ℕ
+afterM1 column class word = max (classAt 1 column) (class - (creditOf word 0 + creditOf word 1 + creditOf word 2))
+
+-- "M2 comes off last, with no floor: the final class may be zero or negative"
+abbrev pub finalClass : ℕ → ℕ → ℕ → ℤ
+finalClass column class word = subℕ (afterM1 column class word) (creditOf word 3)
+
+-- "Mitigation refusals", in the order tested: "9 column not 1 to 5 or class not an entry of that column; 11 a digit that isn't offered;
+-- 12 a final class above 7"; 0 where there is none
+unfoldable pub mitigationRefusal : ℕ → ℕ → ℕ → ℕ
+mitigationRefusal column class word =
+    cond (wrongColumn column || not (isEntry column class)) 9
+    (cond (anyNotOffered word) 11 (cond (ltZ (pos 7) (finalClass column class word)) 12 0))
+
+abbrev pub refusedFinal : ℕ → FinalClass
+refusedFinal n = record { refusal = n; class = pos 0 }
+
+-- the final class; "The answer is zero then", where it is refused
+unfoldable pub finalClassOf : ℕ → ℕ → ℕ → FinalClass
+finalClassOf column class word = record {
+  refusal = mitigationRefusal column class word;
+  class = cond (eqb (mitigationRefusal column class word) 0) (finalClass column class word) (pos 0);
+}

@@ -1,0 +1,8 @@
+// The intrinsic class of the class table, and the final class after the mitigation word.
+mod class_table;
+mod mitigation;
+
+pub use class_table::IntrinsicClass;
+pub use class_table::intrinsic_class;
+pub use mitigation::FinalClass;
+pub use mitigation::final_class;
