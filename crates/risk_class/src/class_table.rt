@@ -31,8 +31,8 @@ pub fn entry(row: u8, column: u8) -> u8
     CLASSES[(row - 1) as usize][(column - 1) as usize]
 }
 
-// The class table's row in use.
-fn used_row(row: u8, controlled: u8) -> u8
+// The class table's row in use: row 1 on controlled ground, else the footprint's.
+pub fn used_row(row: u8, controlled: u8) -> u8
     ensures { λ r. ⌜ r ≡ usedRow row controlled ⌝ }
 {
     if controlled == 1 { 1 } else { row }

@@ -4,5 +4,6 @@ mod mitigation;
 
 pub use class_table::IntrinsicClass;
 pub use class_table::intrinsic_class;
+pub use class_table::used_row;
 pub use mitigation::FinalClass;
 pub use mitigation::final_class;

@@ -1,0 +1,46 @@
+"""The case texts in examples/. Run it to write them there again."""
+
+from pathlib import Path
+
+import ground_risk as g
+
+
+def block_of_marks(rows, columns):
+    bits = sum(1 << (63 - column) for column in columns)
+    return [bits if row in rows else 0 for row in range(64)]
+
+
+def counts_with(people):
+    counts = [0] * 4096
+    for (row, column), count in people.items():
+        counts[64 * row + column] = count
+    return counts
+
+
+def farmhouses():
+    """Document 01's P16: eight people on a hectare, one low M1(A) credit."""
+    return g.text_of_fields(g.Fields(1_000, 10_000, 2_500, 10_000, 0, 0x1000),
+                            block_of_marks(range(0, 1), range(0, 1)), counts_with({(0, 0): 8}))
+
+
+def flagged():
+    """A flagged aircraft over a few houses."""
+    people = {(20, 30): 3, (21, 31): 12, (22, 33): 12, (23, 35): 1, (21, 36): 40}
+    return g.text_of_fields(g.Fields(2_974, 20_005, 3_737, 10_000, 0, 0x1000),
+                            block_of_marks(range(20, 24), range(30, 36)), counts_with(people))
+
+
+def refused():
+    """An aircraft of column 3 over a town, with no mitigation."""
+    people = {(row, column): 60 + row + column for row in range(30, 34) for column in range(10, 20)}
+    return g.text_of_fields(g.Fields(4_000, 60_000, 4_000, 10_000, 0, 0x0000),
+                            block_of_marks(range(28, 33), range(8, 16)), counts_with(people))
+
+
+EXAMPLES = {"farmhouses": farmhouses, "flagged": flagged, "refused": refused}
+
+
+if __name__ == "__main__":
+    folder = Path(__file__).resolve().parent.parent / "examples"
+    for name, text in EXAMPLES.items():
+        (folder / f"{name}.case").write_bytes(text())

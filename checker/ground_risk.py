@@ -1,0 +1,581 @@
+"""The ground risk sheet, written a second time from document 01.
+
+This says what every operation must answer, for every input. It is written to
+be read beside the paper, not to be fast. Quoted sentences are document 01's.
+"""
+
+from fractions import Fraction
+from typing import NamedTuple
+
+# ---------------------------------------------------------------------------
+# The aircraft and its area
+# ---------------------------------------------------------------------------
+
+# "Dimension w is 50 to 100,000 mm. Mass m is 50 to 25,000,000 g.
+#  Speed v is 0 to 40,000 cm/s."
+DIMENSION_RANGE = (50, 100_000)
+MASS_RANGE = (50, 25_000_000)
+SPEED_RANGE = (0, 40_000)
+
+# "65,000; 650,000; 6,500,000; 65,000,000; 650,000,000 square centimetres."
+AREA_LIMITS = (65_000, 650_000, 6_500_000, 65_000_000, 650_000_000)
+
+# "tan is 0.7002075382, cos is 0.8191520443 (35 degrees, ten places; these
+#  decimals are the definition)."
+TAN = Fraction("0.7002075382")
+COS = Fraction("0.8191520443")
+
+
+def within(value, limits):
+    return limits[0] <= value <= limits[1]
+
+
+def round_down(value):
+    return value.numerator // value.denominator
+
+
+def round_up(value):
+    return -((-value.numerator) // value.denominator)
+
+
+def aircraft_refusal(w, m, v):
+    # "1 dimension outside its range; 2 mass; 3 speed"
+    if not within(w, DIMENSION_RANGE):
+        return 1
+    if not within(m, MASS_RANGE):
+        return 2
+    if not within(v, SPEED_RANGE):
+        return 3
+    return 0
+
+
+def exact_glide():
+    # "Glide is 1.8 / tan metres."
+    return Fraction("1.8") / TAN
+
+
+def exact_slide(m, v):
+    # "With V in m/s and M in kg, slide is ((0.65 × cos × V)² − 580 / M) /
+    #  (2 × 0.75 × 9.81) metres, or 0 where that is negative."
+    speed = Fraction(v, 100)
+    mass = Fraction(m, 1000)
+    slide = ((Fraction("0.65") * COS * speed) ** 2 - 580 / mass) / (
+        2 * Fraction("0.75") * Fraction("9.81"))
+    return max(slide, Fraction(0))
+
+
+def exact_area(w, m, v):
+    """The exact area in square centimetres; None outside the ranges."""
+    if aircraft_refusal(w, m, v) != 0:
+        return None
+    # "Let D be 0.3 + half the dimension, in metres."
+    d = Fraction("0.3") + Fraction(w, 1000) / 2
+    # "2 × D × (glide + slide) + 3.14 × D²."
+    whole = 2 * d * (exact_glide() + exact_slide(m, v)) + Fraction("3.14") * d ** 2
+    if w > 8000:
+        area = whole
+    elif w > 1000:
+        # "six tenths of the same."
+        area = Fraction(6, 10) * whole
+    else:
+        # "2 × D × glide + half of 3.14 × D². No slide."
+        area = 2 * d * exact_glide() + Fraction("3.14") * d ** 2 / 2
+    # "10,000 times the one above, never rounded."
+    return 10_000 * area
+
+
+def first_column(area):
+    # "the first whose area limit is at least" this area; 0 where none is.
+    columns = [column for column in (1, 2, 3, 4, 5)
+               if AREA_LIMITS[column - 1] >= area]
+    return columns[0] if columns else 0
+
+
+def exact_column(w, m, v):
+    # "The exact column is the first whose area limit is at least this fraction"
+    area = exact_area(w, m, v)
+    return 0 if area is None else first_column(area)
+
+
+class Line(NamedTuple):
+    low: int
+    high: int
+
+
+class Sheet(NamedTuple):
+    # "The sheet holds lines 1 to 6, the column and the flag"
+    refusal: int
+    glide: Line
+    run: Line
+    saving: Line
+    slide: Line
+    t: Line
+    area: Line
+    column: int
+    flag: int
+
+
+def refused_sheet(refusal):
+    # "a refused sheet is all zeros."
+    return Sheet(refusal, Line(0, 0), Line(0, 0), Line(0, 0), Line(0, 0),
+                 Line(0, 0), Line(0, 0), 0, 0)
+
+
+def glide_line():
+    # "1. Glide: low 2,570,666, high 2,570,667."
+    return Line(2_570_666, 2_570_667)
+
+
+def run_line(v):
+    # "2. Run: v × v × 1,926,617,433 / 10⁹ rounded down;
+    #  v × v × 1,926,617,434 / 10⁹ rounded up."
+    return Line(round_down(Fraction(v * v * 1_926_617_433, 10 ** 9)),
+                round_up(Fraction(v * v * 1_926_617_434, 10 ** 9)))
+
+
+def saving_line(m):
+    # "3. Saving: 39,415,562,351 / m rounded down;
+    #  39,415,562,352 / m rounded up."
+    return Line(round_down(Fraction(39_415_562_351, m)),
+                round_up(Fraction(39_415_562_352, m)))
+
+
+def slide_line(run, saving):
+    # "4. Slide low: run low less saving high. Slide high: run high less saving
+    #  low. Zero where negative."
+    return Line(max(0, run.low - saving.high), max(0, run.high - saving.low))
+
+
+def t_line(w, glide, slide):
+    # "a is w + 600, in millimetres."
+    a = w + 600
+    # "5. T is a × (glide + slide) + 785 × a × a"
+    return Line(a * (glide.low + slide.low) + 785 * a * a,
+                a * (glide.high + slide.high) + 785 * a * a)
+
+
+def area_line(w, glide, t):
+    # "6. Area in square centimetres, low rounded down and high rounded up"
+    a = w + 600
+    if w > 8000:
+        # "T / 100,000 above 8,000 mm"
+        low, high = Fraction(t.low, 100_000), Fraction(t.high, 100_000)
+    elif w > 1000:
+        # "3 × T / 500,000 above 1,000 mm"
+        low, high = Fraction(3 * t.low, 500_000), Fraction(3 * t.high, 500_000)
+    else:
+        # "otherwise (2 × a × glide + 785 × a × a) / 200,000."
+        low = Fraction(2 * a * glide.low + 785 * a * a, 200_000)
+        high = Fraction(2 * a * glide.high + 785 * a * a, 200_000)
+    return Line(round_down(low), round_up(high))
+
+
+def sheet(w, m, v):
+    refusal = aircraft_refusal(w, m, v)
+    if refusal != 0:
+        return refused_sheet(refusal)
+    # "all six lines are filled at every dimension."
+    glide = glide_line()
+    run = run_line(v)
+    saving = saving_line(m)
+    slide = slide_line(run, saving)
+    t = t_line(w, glide, slide)
+    area = area_line(w, glide, t)
+    # "4 high area above 650,000,000."
+    if area.high > 650_000_000:
+        return refused_sheet(4)
+    # "The column is the first whose area limit is at least the high area"
+    column = first_column(area.high)
+    # "The flag is 1 when the column isn't the first and the low area is at
+    #  most the limit before it, otherwise 0."
+    flag = 1 if column != 1 and area.low <= AREA_LIMITS[column - 2] else 0
+    return Sheet(0, glide, run, saving, slide, t, area, column, flag)
+
+
+# ---------------------------------------------------------------------------
+# The footprint on the map
+# ---------------------------------------------------------------------------
+
+# "A map is 64 rows of 64 cells"; "4,096 32-bit numbers, row after row."
+ROWS = 64
+PLACES = 4096
+# "one cell area s for all, 100 to 25,000,000 square metres."
+CELL_AREA_RANGE = (100, 25_000_000)
+# "one head count (0 to 1,000,000) a cell"
+LARGEST_COUNT = 1_000_000
+
+
+class Footprint(NamedTuple):
+    refusal: int
+    row: int
+    place: int
+    people: int
+    cells: int
+
+
+def table_row(people, cell_area):
+    # "2 when people × 1,000,000 is less than 5 × s; else 3 for 50, 4 for 500,
+    #  5 for 5,000, 6 for 50,000; else 7."
+    for row, density in ((2, 5), (3, 50), (4, 500), (5, 5_000), (6, 50_000)):
+        if people * 1_000_000 < density * cell_area:
+            return row
+    return 7
+
+
+def is_marked(marks, place):
+    # "the highest bit of each is the westernmost cell, and a set bit marks a
+    #  cell as flown over."
+    return (marks[place // 64] >> (63 - place % 64)) & 1 == 1
+
+
+def footprint(counts, marks, cell_area):
+    # "5 the map isn't 4,096 numbers long or the footprint isn't 64"
+    if len(counts) != PLACES or len(marks) != ROWS:
+        return Footprint(5, 0, 0, 0, 0)
+    # "6 cell area out of range"
+    if not within(cell_area, CELL_AREA_RANGE):
+        return Footprint(6, 0, 0, 0, 0)
+    # "7 any count, marked or not, above 1,000,000"
+    if any(count > LARGEST_COUNT for count in counts):
+        return Footprint(7, 0, 0, 0, 0)
+    # "8 no bit set."
+    marked = [place for place in range(PLACES) if is_marked(marks, place)]
+    if not marked:
+        return Footprint(8, 0, 0, 0, 0)
+    # "the highest row among marked cells"
+    row = max(table_row(counts[place], cell_area) for place in marked)
+    # "the place (64 × row + column) of the first marked cell with the largest
+    #  count"
+    largest = max(counts[place] for place in marked)
+    place = [place for place in marked if counts[place] == largest][0]
+    # "the sum of people in marked cells; and the number of marked cells"
+    people = sum(counts[place] for place in marked)
+    return Footprint(0, row, place, people, len(marked))
+
+
+# ---------------------------------------------------------------------------
+# The class table
+# ---------------------------------------------------------------------------
+
+NONE = None
+
+# Table row by row, columns 1 to 5.
+CLASS_TABLE = {
+    1: (1, 1, 2, 3, 3),
+    2: (2, 3, 4, 5, 6),
+    3: (3, 4, 5, 6, 7),
+    4: (4, 5, 6, 7, 8),
+    5: (5, 6, 7, 8, 9),
+    6: (6, 7, 8, 9, 10),
+    7: (7, 8, NONE, NONE, NONE),
+}
+
+
+def row_used(row, controlled_mark):
+    # "A controlled-ground mark of 1 puts row 1 in place of the footprint's
+    #  row; 0 keeps it."
+    return 1 if controlled_mark == 1 else row
+
+
+def intrinsic_class(column, row, controlled_mark):
+    """The refusal and the intrinsic class."""
+    # "9 column not 1 to 5, row not 2 to 7, or mark not 0 or 1"
+    if column not in (1, 2, 3, 4, 5):
+        return 9, 0
+    if row not in (2, 3, 4, 5, 6, 7):
+        return 9, 0
+    if controlled_mark not in (0, 1):
+        return 9, 0
+    entry = CLASS_TABLE[row_used(row, controlled_mark)][column - 1]
+    # "10 the entry is "none". The answer is zero then."
+    if entry is NONE:
+        return 10, 0
+    return 0, entry
+
+
+# ---------------------------------------------------------------------------
+# The mitigation word
+# ---------------------------------------------------------------------------
+
+# "Credits: M1(A) 1 gives 1, 2 gives 2; M1(B) 2 gives 1, 3 gives 2; M1(C) 1
+#  gives 1; M2 2 gives 1, 3 gives 2; 0 gives nothing. Other digits aren't
+#  offered."
+M1A_CREDITS = {0: 0, 1: 1, 2: 2}
+M1B_CREDITS = {0: 0, 2: 1, 3: 2}
+M1C_CREDITS = {0: 0, 1: 1}
+M2_CREDITS = {0: 0, 2: 1, 3: 2}
+
+
+def word_digits(word):
+    # "Four hexadecimal digits, in order M1(A), M1(B), M1(C), M2."
+    return ((word // 4096) % 16, (word // 256) % 16, (word // 16) % 16, word % 16)
+
+
+def final_class(column, cls, word):
+    """The refusal and the final class."""
+    # "9 column not 1 to 5 or class not an entry of that column"
+    if column not in (1, 2, 3, 4, 5):
+        return 9, 0
+    entries = [CLASS_TABLE[row][column - 1] for row in CLASS_TABLE
+               if CLASS_TABLE[row][column - 1] is not NONE]
+    if cls not in entries:
+        return 9, 0
+    # "11 a digit that isn't offered"
+    m1a, m1b, m1c, m2 = word_digits(word)
+    if (m1a not in M1A_CREDITS or m1b not in M1B_CREDITS
+            or m1c not in M1C_CREDITS or m2 not in M2_CREDITS):
+        return 11, 0
+    # "The three M1 credits come off the intrinsic class first, but never below
+    #  the row 1 entry of the column."
+    floor = CLASS_TABLE[1][column - 1]
+    after_m1 = max(floor, cls - M1A_CREDITS[m1a] - M1B_CREDITS[m1b] - M1C_CREDITS[m1c])
+    # "M2 comes off last, with no floor"
+    final = after_m1 - M2_CREDITS[m2]
+    # "12 a final class above 7. The answer is zero then"
+    if final > 7:
+        return 12, 0
+    return 0, final
+
+
+# ---------------------------------------------------------------------------
+# Workings and the whole assessment
+# ---------------------------------------------------------------------------
+
+class Working(NamedTuple):
+    """A class that isn't given is None."""
+    refusal: int
+    intrinsic: int | None
+    final: int | None
+
+
+def working(column, counts, marks, cell_area, controlled_mark, word):
+    # "Each working takes the footprint's row, then the class table, then the
+    #  mitigation word, with its own column at both."
+    # "The first refusal ends a working: a class given before it counts as
+    #  given, a later one isn't given."
+    ground = footprint(counts, marks, cell_area)
+    if ground.refusal != 0:
+        return Working(ground.refusal, None, None)
+    return working_from_row(column, ground.row, controlled_mark, word)
+
+
+def working_from_row(column, row, controlled_mark, word):
+    refusal, intrinsic = intrinsic_class(column, row, controlled_mark)
+    if refusal != 0:
+        return Working(refusal, None, None)
+    refusal, final = final_class(column, intrinsic, word)
+    if refusal != 0:
+        return Working(refusal, intrinsic, None)
+    return Working(0, intrinsic, final)
+
+
+class Assessment(NamedTuple):
+    """What comes after the first refusal is zero, and so is the refused part."""
+    refusal: int
+    sheet: Sheet
+    footprint: Footprint
+    intrinsic: int
+    final: int
+
+
+def assessment(w, m, v, counts, marks, cell_area, controlled_mark, word):
+    # "sheet, footprint, class, mitigation; the first refusal"
+    no_footprint = Footprint(0, 0, 0, 0, 0)
+    aircraft = sheet(w, m, v)
+    if aircraft.refusal != 0:
+        return Assessment(aircraft.refusal, aircraft, no_footprint, 0, 0)
+    ground = footprint(counts, marks, cell_area)
+    if ground.refusal != 0:
+        return Assessment(ground.refusal, aircraft, ground, 0, 0)
+    refusal, intrinsic = intrinsic_class(aircraft.column, ground.row, controlled_mark)
+    if refusal != 0:
+        return Assessment(refusal, aircraft, ground, 0, 0)
+    refusal, final = final_class(aircraft.column, intrinsic, word)
+    if refusal != 0:
+        return Assessment(refusal, aircraft, ground, intrinsic, 0)
+    return Assessment(0, aircraft, ground, intrinsic, final)
+
+
+# ---------------------------------------------------------------------------
+# Case text
+# ---------------------------------------------------------------------------
+
+# "House text is hexadecimal in lower case, one frame a line, each ended by
+#  byte 10 (decimal)."
+DIGITS = b"0123456789abcdef"
+LINE_END = 10
+
+# "Line 1 has 38 digits: dimension 8, mass 8, speed 8, cell area 8, controlled
+#  mark 2, mitigation word 4."
+LINE_1_DIGITS = 38
+# "Then 64 lines of 16 digits, the footprint, and 64 lines of 512 digits, eight
+#  a count. The whole is 33,959 bytes."
+LINE_LENGTHS = [LINE_1_DIGITS] + [16] * 64 + [512] * 64
+TEXT_LENGTH = 33_959
+
+
+def line_end_places():
+    places = []
+    end = -1
+    for length in LINE_LENGTHS:
+        end = end + length + 1
+        places.append(end)
+    return places
+
+
+LINE_END_PLACES = frozenset(line_end_places())
+
+
+class Fields(NamedTuple):
+    dimension: int
+    mass: int
+    speed: int
+    cell_area: int
+    controlled_mark: int
+    word: int
+
+
+NO_FIELDS = Fields(0, 0, 0, 0, 0, 0)
+
+
+class Reading(NamedTuple):
+    refusal: int
+    fields: Fields
+    counts: list
+    marks: list
+
+
+def in_its_place(place, byte):
+    # "14 a byte that isn't a digit or line end in its place."
+    if place in LINE_END_PLACES:
+        return byte == LINE_END
+    return byte in DIGITS
+
+
+def number_of(digits):
+    return int(digits, 16)
+
+
+def read_case(text, counts_buffer, marks_buffer):
+    """The reading, with both buffers as they are at exit."""
+    counts_buffer, marks_buffer = list(counts_buffer), list(marks_buffer)
+    # "13 length other than 33,959"
+    if len(text) != TEXT_LENGTH:
+        return Reading(13, NO_FIELDS, counts_buffer, marks_buffer)
+    # "5 a lent count or footprint buffer of the wrong length"
+    if len(counts_buffer) != PLACES or len(marks_buffer) != ROWS:
+        return Reading(5, NO_FIELDS, counts_buffer, marks_buffer)
+    # "All bytes are tested before any is stored, so a refused reading changes
+    #  neither buffer."
+    if not all(in_its_place(place, byte) for place, byte in enumerate(text)):
+        return Reading(14, NO_FIELDS, counts_buffer, marks_buffer)
+    lines = bytes(text).split(b"\n")
+    first = lines[0]
+    fields = Fields(number_of(first[0:8]), number_of(first[8:16]),
+                    number_of(first[16:24]), number_of(first[24:32]),
+                    number_of(first[32:34]), number_of(first[34:38]))
+    marks = [number_of(line) for line in lines[1:65]]
+    counts = [number_of(line[start:start + 8])
+              for line in lines[65:129] for start in range(0, 512, 8)]
+    return Reading(0, fields, counts, marks)
+
+
+def digits_of(value, length):
+    """The last `length` hexadecimal digits of a number, as bytes."""
+    return b"%0*x" % (length, value % 16 ** length)
+
+
+def text_of_fields(fields, marks, counts):
+    """The case text of these fields, 64 footprint rows and 4,096 counts."""
+    first = b"".join([digits_of(fields.dimension, 8), digits_of(fields.mass, 8),
+                      digits_of(fields.speed, 8), digits_of(fields.cell_area, 8),
+                      digits_of(fields.controlled_mark, 2), digits_of(fields.word, 4)])
+    footprint_lines = [digits_of(row, 16) for row in marks]
+    count_lines = [b"".join(digits_of(count, 8) for count in counts[start:start + 64])
+                   for start in range(0, len(counts), 64)]
+    return b"".join(line + b"\n" for line in [first] + footprint_lines + count_lines)
+
+
+# ---------------------------------------------------------------------------
+# Printed frame and the whole case
+# ---------------------------------------------------------------------------
+
+class Frame(NamedTuple):
+    low: int
+    high: int
+    column: int
+    flag: int
+    row: int
+    place: int
+    people: int
+    intrinsic: int
+    final: int
+
+
+# "The printed frame has 40 digits and a line end"
+FRAME_LENGTH = 41
+
+
+def frame_text(outcome):
+    """The bytes for a frame's fields, or for a refusal number."""
+    if isinstance(outcome, Frame):
+        # "00; low 8; high 8; column 2; flag 2; table row used 2; place 4;
+        #  people 8; intrinsic class 2; final class 2 (−1 is ff)."
+        return b"".join([b"00", digits_of(outcome.low, 8), digits_of(outcome.high, 8),
+                         digits_of(outcome.column, 2), digits_of(outcome.flag, 2),
+                         digits_of(outcome.row, 2), digits_of(outcome.place, 4),
+                         digits_of(outcome.people, 8), digits_of(outcome.intrinsic, 2),
+                         digits_of(outcome.final, 2), b"\n"])
+    # "A refused case gives its number as two digits and a line end instead."
+    return digits_of(outcome, 2) + b"\n"
+
+
+class Writing(NamedTuple):
+    refusal: int
+    frame: bytes
+
+
+def write_frame(outcome, frame_buffer):
+    """Outcome is a Frame or a refusal number. The buffer is as at exit."""
+    frame_buffer = bytes(frame_buffer)
+    # "15 a buffer shorter than 41 bytes, for refused cases too; nothing written."
+    if len(frame_buffer) < FRAME_LENGTH:
+        return Writing(15, frame_buffer)
+    # "bytes after the last one written keep their content."
+    written = frame_text(outcome)
+    return Writing(0, written + frame_buffer[len(written):])
+
+
+class CaseAnswer(NamedTuple):
+    refusal: int
+    counts: list
+    marks: list
+    frame: bytes
+
+
+def case(text, counts_buffer, marks_buffer, frame_buffer):
+    """The whole case, with all three buffers as they are at exit."""
+    # "The whole case is tested in the order: 15, reading, sheet, footprint,
+    #  class, mitigation; the first refusal from reading on is printed."
+    # "under 15 they keep their content."
+    if len(frame_buffer) < FRAME_LENGTH:
+        return CaseAnswer(15, list(counts_buffer), list(marks_buffer), bytes(frame_buffer))
+    reading = read_case(text, counts_buffer, marks_buffer)
+    if reading.refusal != 0:
+        frame = write_frame(reading.refusal, frame_buffer).frame
+        return CaseAnswer(reading.refusal, reading.counts, reading.marks, frame)
+    # "A reading that succeeds fills both buffers, also when a later refusal is
+    #  printed"
+    fields = reading.fields
+    answer = assessment(fields.dimension, fields.mass, fields.speed, reading.counts,
+                        reading.marks, fields.cell_area, fields.controlled_mark, fields.word)
+    if answer.refusal != 0:
+        frame = write_frame(answer.refusal, frame_buffer).frame
+        return CaseAnswer(answer.refusal, reading.counts, reading.marks, frame)
+    outcome = Frame(answer.sheet.area.low, answer.sheet.area.high, answer.sheet.column,
+                    answer.sheet.flag, row_used(answer.footprint.row, fields.controlled_mark),
+                    answer.footprint.place, answer.footprint.people,
+                    answer.intrinsic, answer.final)
+    frame = write_frame(outcome, frame_buffer).frame
+    # "Its answer is the refusal number alone, 0 when there is none."
+    return CaseAnswer(0, reading.counts, reading.marks, frame)

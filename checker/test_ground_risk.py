@@ -1,0 +1,360 @@
+"""Sheet, footprint, class table, mitigation word and the whole assessment."""
+
+import unittest
+from fractions import Fraction
+
+import ground_risk as g
+from flagged_aircraft import AT_LIMITS, FLAGGED
+
+U32 = 2 ** 32 - 1
+U64 = 2 ** 64 - 1
+
+OFFERED_WORDS = [4096 * a + 256 * b + 16 * c + d
+                 for a in (0, 1, 2) for b in (0, 2, 3) for c in (0, 1) for d in (0, 2, 3)]
+
+
+def lines(w, m, v):
+    """Lines 1 to 6, also where the sheet is refused for its area."""
+    glide = g.glide_line()
+    run = g.run_line(v)
+    saving = g.saving_line(m)
+    slide = g.slide_line(run, saving)
+    t = g.t_line(w, glide, slide)
+    return glide, run, saving, slide, t, g.area_line(w, glide, t)
+
+
+def one_cell(place):
+    marks = [0] * 64
+    marks[place // 64] = 1 << (63 - place % 64)
+    return marks
+
+
+def some_counts(**people):
+    counts = [0] * 4096
+    for name, count in people.items():
+        counts[int(name[1:])] = count
+    return counts
+
+
+class SheetTest(unittest.TestCase):
+    def test_papers_cases(self):
+        table = (
+            ("P1", (50, 50, 0), (18_367, 18_368), 1),
+            ("P2", (1_000, 10_000, 2_500), (51_178, 51_179), 1),
+            ("P3", (1_001, 10_000, 0), (36_766, 36_767), 1),
+            ("P4", (3_000, 25_000, 3_500), (592_295, 592_296), 2),
+            ("P5", (8_000, 50_000, 0), (480_997, 480_999), 2),
+            ("P6", (8_001, 50_000, 0), (801_824, 801_825), 3),
+        )
+        for mark, aircraft, area, column in table:
+            with self.subTest(mark):
+                sheet = g.sheet(*aircraft)
+                self.assertEqual((sheet.refusal, sheet.area, sheet.column, sheet.flag),
+                                 (0, area, column, 0))
+        self.assertEqual(g.sheet(49, 0, 0), g.refused_sheet(1))                     # P7
+        self.assertEqual(g.sheet(100_000, 25_000_000, 40_000), g.refused_sheet(4))  # P8
+
+    def test_lines_by_hand_small(self):
+        # All six lines stand at 1,000 mm, though the area uses no slide.
+        self.assertEqual(g.sheet(1_000, 10_000, 2_500), g.Sheet(
+            0, (2_570_666, 2_570_667), (12_041_358, 12_041_359), (3_941_556, 3_941_557),
+            (8_099_801, 8_099_803), (19_082_347_200, 19_082_352_000), (51_178, 51_179), 1, 0))
+
+    def test_lines_by_hand_middle(self):
+        self.assertEqual(g.sheet(3_000, 25_000, 3_500), g.Sheet(
+            0, (2_570_666, 2_570_667), (23_601_063, 23_601_064), (1_576_622, 1_576_623),
+            (22_024_440, 22_024_442), (98_715_981_600, 98_715_992_400),
+            (592_295, 592_296), 2, 0))
+
+    def test_lines_by_hand_large(self):
+        self.assertEqual(g.sheet(8_001, 50_000, 0), g.Sheet(
+            0, (2_570_666, 2_570_667), (0, 0), (788_311, 788_312), (0, 0),
+            (80_182_401_051, 80_182_409_652), (801_824, 801_825), 3, 0))
+
+    def test_lines_at_the_ends(self):
+        self.assertEqual(g.run_line(0), (0, 0))
+        self.assertEqual(g.run_line(1), (1, 2))
+        self.assertEqual(g.run_line(40_000), (3_082_587_892, 3_082_587_895))
+        self.assertEqual(g.saving_line(50), (788_311_247, 788_311_248))
+        self.assertEqual(g.saving_line(25_000_000), (1_576, 1_577))
+        # A saving between the two runs: slide low is zero, slide high is not.
+        self.assertEqual(g.slide_line(g.Line(10, 12), g.Line(11, 12)), (0, 1))
+        self.assertEqual(g.slide_line(g.Line(10, 12), g.Line(12, 13)), (0, 0))
+
+    def test_edges(self):
+        for aircraft, refusal in (
+                ((49, 50, 0), 1), ((50, 50, 0), 0), ((100_000, 50, 0), 0),
+                ((100_001, 50, 0), 1), ((0, 50, 0), 1), ((U32, 50, 0), 1),
+                ((50, 49, 0), 2), ((50, 50, 0), 0), ((50, 25_000_000, 0), 0),
+                ((50, 25_000_001, 0), 2), ((50, 0, 0), 2), ((50, U32, 0), 2),
+                ((50, 50, 40_000), 0), ((50, 50, 40_001), 3), ((50, 50, U32), 3),
+                # the order: 1 before 2 before 3 before 4
+                ((49, 49, 40_001), 1), ((50, 49, 40_001), 2), ((100_000, 25_000_001, 40_000), 2),
+                ((100_000, 25_000_000, 40_001), 3), ((100_000, 25_000_000, 40_000), 4)):
+            with self.subTest(aircraft):
+                sheet = g.sheet(*aircraft)
+                self.assertEqual(sheet.refusal, refusal)
+                if refusal:
+                    self.assertEqual(sheet, g.refused_sheet(refusal))
+                    self.assertTrue(all(part in (0, (0, 0)) for part in sheet[1:]))
+                else:
+                    self.assertIn(sheet.column, (1, 2, 3, 4, 5))
+
+    def test_area_changes_at_the_formula_edges(self):
+        # Up to 1,000 mm speed and mass make no difference to the area.
+        self.assertEqual(g.sheet(1_000, 50, 0).area, g.sheet(1_000, 25_000_000, 40_000).area)
+        self.assertNotEqual(g.sheet(1_001, 50, 0).area, g.sheet(1_001, 25_000_000, 40_000).area)
+        # 8,001 has five thirds of what 8,000 has, about.
+        self.assertAlmostEqual(g.exact_area(8_001, 50, 0) / g.exact_area(8_000, 50, 0) * 3 / 5,
+                               1, places=3)
+
+    def test_exact_area(self):
+        # P1 by hand: D = 0.325; 2 × D × 1.8 / tan + half of 3.14 × D².
+        by_hand = (2 * Fraction(325, 1000) * Fraction(18, 10) / Fraction(7002075382, 10 ** 10)
+                   + Fraction(314, 100) * Fraction(325, 1000) ** 2 / 2)
+        self.assertEqual(g.exact_area(50, 50, 0), 10_000 * by_hand)
+        self.assertIsNone(g.exact_area(49, 50, 0))
+        self.assertIsNone(g.exact_area(50, 0, 0))
+        self.assertIsNone(g.exact_area(50, 50, 40_001))
+        self.assertEqual(g.exact_column(100_000, 25_000_000, 40_000), 0)
+        self.assertEqual(g.exact_column(49, 50, 0), 0)
+        # Slide is zero where the aircraft is too slow for its mass.
+        self.assertEqual(g.exact_slide(50, 0), 0)
+        self.assertEqual(g.exact_slide(50, 20_000), 0)
+        self.assertGreater(g.exact_slide(50, 21_000), 0)
+
+    def test_slide_by_the_guideline(self):
+        # Formulas (6) to (10) of 002, at masses whose non-lethal speed is whole.
+        e, friction, gravity = Fraction("0.65"), Fraction("0.75"), Fraction("9.81")
+        for m, non_lethal in ((1_450, 20), (5_800, 10), (23_200, 5), (145_000, 2), (580_000, 1)):
+            for v in (0, 100, 500, 1_878, 1_879, 3_757, 3_758, 40_000):
+                horizontal = Fraction(v, 100) * g.COS
+                safe_time = (non_lethal - e * horizontal) / (-friction * gravity)
+                slide = (e * horizontal * safe_time
+                         - Fraction(1, 2) * friction * gravity * safe_time ** 2)
+                self.assertEqual(g.exact_slide(m, v), slide if safe_time >= 0 else 0)
+
+    def test_column_limits(self):
+        for column in (1, 2, 3, 4, 5):
+            limit = g.AREA_LIMITS[column - 1]
+            self.assertEqual(g.first_column(limit), column)
+            self.assertEqual(g.first_column(limit + 1), (column + 1) % 6)
+            self.assertEqual(g.first_column(limit + Fraction(1, 10 ** 30)), (column + 1) % 6)
+
+    def test_flagged_table(self):
+        kinds = set()
+        for column, exact, w, m, v in FLAGGED:
+            sheet = g.sheet(w, m, v)
+            self.assertEqual((sheet.refusal, sheet.column, sheet.flag, g.exact_column(w, m, v)),
+                             (0, column, 1, exact))
+            kinds.add((column, column - exact, 1 if w <= 1_000 else 2 if w <= 8_000 else 3))
+        self.assertEqual(kinds, {(2, 0, 2), (2, 1, 2), (3, 0, 2), (3, 1, 2),
+                                 (4, 0, 2), (4, 1, 2), (4, 0, 3), (4, 1, 3),
+                                 (5, 0, 2), (5, 1, 2), (5, 0, 3), (5, 1, 3)})
+
+    def test_no_other_kind_of_flag_exists(self):
+        # Areas grow with the slide, and with the dimension within a formula range.
+        self.assertEqual(g.sheet(1_000, 25_000_000, 40_000).column, 1)
+        self.assertGreater(g.sheet(8_001, 50, 0).area.low, g.AREA_LIMITS[1])
+
+    def test_at_limits(self):
+        for limit, kind, w, m, v in AT_LIMITS:
+            area = lines(w, m, v)[5]
+            sheet = g.sheet(w, m, v)
+            column = g.AREA_LIMITS.index(limit) + 1
+            after = (0, column + 1) if column < 5 else (4, 0)
+            with self.subTest((limit, kind)):
+                if kind == "high at":
+                    self.assertEqual(area.high, limit)
+                    self.assertEqual((sheet.refusal, sheet.column, sheet.flag), (0, column, 0))
+                elif kind == "low at":
+                    self.assertEqual(area.low, limit)
+                    self.assertEqual((sheet.refusal, sheet.column), after)
+                    self.assertEqual(sheet.flag, 1 if column < 5 else 0)
+                elif kind == "low above":
+                    self.assertEqual(area.low, limit + 1)
+                    self.assertEqual((sheet.refusal, sheet.column), after)
+                    self.assertEqual(sheet.flag, 0)
+                else:
+                    self.assertEqual(sheet, g.refused_sheet(4))
+                    self.assertLessEqual(g.exact_area(w, m, v), limit)
+                    self.assertGreater(g.exact_area(w, m, v), limit - 7)
+
+
+class FootprintTest(unittest.TestCase):
+    def test_papers_cases(self):
+        for mark, cell_area, people, row in (
+                ("P9", 1_000_000, 4, 2), ("P9", 1_000_000, 5, 3),
+                ("P10", 1_000_000, 49_999, 6), ("P10", 1_000_000, 50_000, 7),
+                ("P11", 10_000, 1, 4), ("P11", 10_000, 8, 5)):
+            with self.subTest((mark, people)):
+                self.assertEqual(g.table_row(people, cell_area), row)
+                self.assertEqual(g.footprint(some_counts(p70=people), one_cell(70), cell_area),
+                                 (0, row, 70, people, 1))
+
+    def test_row_boundaries(self):
+        for row, density in ((2, 5), (3, 50), (4, 500), (5, 5_000), (6, 50_000)):
+            for cell_area in (100, 10_000, 200_000, 1_000_000, 20_000_000):
+                people = -(-density * cell_area // 1_000_000)
+                self.assertGreaterEqual(g.table_row(people, cell_area), row + 1)
+                self.assertLessEqual(g.table_row(people - 1, cell_area), row)
+        self.assertEqual(g.table_row(0, 100), 2)
+        self.assertEqual(g.table_row(1_000_000, 100), 7)
+        self.assertEqual(g.table_row(1_000_000, 20_000_000), 7)
+        self.assertEqual(g.table_row(1_000_000, 20_000_001), 6)
+
+    def test_refusals(self):
+        counts, marks = [0] * 4096, one_cell(0)
+        for number, wrong in (
+                (5, (counts[:-1], marks, 100)), (5, (counts + [0], marks, 100)),
+                (5, ([], marks, 100)), (5, (counts, marks[:-1], 100)),
+                (5, (counts, marks + [0], 100)), (5, (counts, [], 100)),
+                (6, (counts, marks, 99)), (6, (counts, marks, 25_000_001)),
+                (6, (counts, marks, 0)), (6, (counts, marks, U32)),
+                (7, (some_counts(p0=1_000_001), marks, 100)),
+                (7, (some_counts(p1=1_000_001), marks, 100)),
+                (7, (some_counts(p4095=U32), marks, 25_000_000)),
+                (8, (counts, [0] * 64, 100)),
+                # the order
+                (5, ([U32], marks, 0)), (6, (some_counts(p0=U32), [0] * 64, 99)),
+                (7, (some_counts(p4095=1_000_001), [0] * 64, 100))):
+            self.assertEqual(g.footprint(*wrong), (number, 0, 0, 0, 0))
+        self.assertEqual(g.footprint(counts, marks, 100), (0, 2, 0, 0, 1))
+        self.assertEqual(g.footprint(counts, marks, 25_000_000), (0, 2, 0, 0, 1))
+        self.assertEqual(g.footprint(some_counts(p0=1_000_000), marks, 25_000_000),
+                         (0, 6, 0, 1_000_000, 1))
+
+    def test_corners(self):
+        for row, bits, place in ((0, 1 << 63, 0), (0, 1, 63), (63, 1 << 63, 4032), (63, 1, 4095)):
+            marks = [0] * 64
+            marks[row] = bits
+            self.assertEqual(marks, one_cell(place))
+            counts = list(range(4096))
+            self.assertEqual(g.footprint(counts, marks, 25_000_000).place, place)
+            self.assertEqual(g.footprint(counts, marks, 25_000_000).people, place)
+
+    def test_ties_and_sums(self):
+        every = [U64] * 64
+        self.assertEqual(g.footprint([1_000_000] * 4096, every, 25_000_000),
+                         (0, 6, 0, 4_096_000_000, 4096))
+        counts = some_counts(p5=9, p100=9, p101=8, p4095=9)
+        self.assertEqual(g.footprint(counts, every, 1_000_000), (0, 3, 5, 35, 4096))
+        not_5 = list(every)
+        not_5[0] -= 1 << (63 - 5)
+        self.assertEqual(g.footprint(counts, not_5, 1_000_000), (0, 3, 100, 26, 4095))
+        # No people: the first marked cell has the largest count, zero.
+        self.assertEqual(g.footprint([0] * 4096, [0] * 63 + [6], 100), (0, 2, 4093, 0, 2))
+
+
+class ClassTest(unittest.TestCase):
+    def test_table(self):
+        for column in (1, 2, 3, 4, 5):
+            for row in (2, 3, 4, 5, 6):
+                self.assertEqual(g.intrinsic_class(column, row, 0), (0, column + row - 1))
+                self.assertEqual(g.intrinsic_class(column, row, 1), (0, (1, 1, 2, 3, 3)[column - 1]))
+        self.assertEqual([g.intrinsic_class(column, 7, 0) for column in (1, 2, 3, 4, 5)],
+                         [(0, 7), (0, 8), (10, 0), (10, 0), (10, 0)])
+        # Controlled ground has an entry in every column.
+        self.assertEqual([g.intrinsic_class(column, 7, 1) for column in (1, 2, 3, 4, 5)],
+                         [(0, 1), (0, 1), (0, 2), (0, 3), (0, 3)])
+
+    def test_refusal_9(self):
+        for column in range(256):
+            for row in range(256):
+                for mark in (0, 1, 2, 255):
+                    wrong = (not 1 <= column <= 5) or (not 2 <= row <= 7) or mark > 1
+                    self.assertEqual(g.intrinsic_class(column, row, mark)[0] == 9, wrong)
+        for mark in range(2, 256):
+            self.assertEqual(g.intrinsic_class(3, 7, mark), (9, 0))
+
+
+class MitigationTest(unittest.TestCase):
+    def test_papers_cases(self):
+        self.assertEqual(g.final_class(3, 6, 0x2212), (0, 1))    # P12
+        self.assertEqual(g.final_class(3, 6, 0x2313), (0, 0))    # P13
+        self.assertEqual(g.final_class(1, 1, 0x0003), (0, -1))   # P14
+        self.assertEqual(g.final_class(5, 9, 0x0000), (12, 0))   # P15
+
+    def test_entries(self):
+        entries = {1: {1, 2, 3, 4, 5, 6, 7}, 2: {1, 3, 4, 5, 6, 7, 8}, 3: {2, 4, 5, 6, 7, 8},
+                   4: {3, 5, 6, 7, 8, 9}, 5: {3, 6, 7, 8, 9, 10}}
+        for column in range(256):
+            for cls in range(256):
+                refusal = g.final_class(column, cls, 0xffff)[0]
+                self.assertEqual(refusal, 11 if cls in entries.get(column, ()) else 9)
+
+    def test_offered_digits(self):
+        refused = [word for word in range(65_536) if g.final_class(3, 6, word) == (11, 0)]
+        self.assertEqual(len(refused), 65_536 - 54)
+        self.assertEqual(set(range(65_536)) - set(refused), set(OFFERED_WORDS))
+
+    def test_credits(self):
+        for word, final in ((0x0000, 7), (0x1000, 6), (0x2000, 5), (0x0200, 6), (0x0300, 5),
+                            (0x0010, 6), (0x0002, 6), (0x0003, 5), (0x2300, 3), (0x2310, 2),
+                            (0x2312, 1), (0x2313, 0), (0x1213, 2)):
+            with self.subTest(word):
+                self.assertEqual(g.final_class(1, 7, word), (0, final))
+
+    def test_floor_and_last(self):
+        self.assertEqual(g.final_class(4, 5, 0x2310), (0, 3))
+        self.assertEqual(g.final_class(4, 5, 0x2312), (0, 2))
+        self.assertEqual(g.final_class(4, 3, 0x2313), (0, 1))
+        self.assertEqual(g.final_class(2, 1, 0x2313), (0, -1))
+        self.assertEqual(min(g.final_class(column, cls, word)[1]
+                             for column in (1, 2, 3, 4, 5) for cls in range(11)
+                             for word in OFFERED_WORDS), -1)
+
+    def test_above_seven(self):
+        self.assertEqual(g.final_class(5, 10, 0x1010), (12, 0))
+        self.assertEqual(g.final_class(5, 10, 0x2010), (0, 7))
+        self.assertEqual(g.final_class(5, 10, 0x0003), (12, 0))
+        self.assertEqual(g.final_class(5, 10, 0x1003), (0, 7))
+        self.assertEqual(g.final_class(2, 8, 0x0000), (12, 0))
+        self.assertEqual(g.final_class(2, 8, 0x0002), (0, 7))
+        # 11 comes before 12.
+        self.assertEqual(g.final_class(5, 10, 0x0001), (11, 0))
+
+
+class AssessmentTest(unittest.TestCase):
+    small = (1_000, 10_000, 2_500)
+    large = (8_001, 50_000, 0)
+
+    def test_answer(self):
+        answer = g.assessment(*self.small, some_counts(p0=8), one_cell(0), 10_000, 0, 0x1000)
+        self.assertEqual(answer, (0, g.sheet(*self.small), (0, 5, 0, 8, 1), 5, 4))
+
+    def test_first_refusal(self):
+        counts, marks = some_counts(p0=8), one_cell(0)
+        crowd = some_counts(p0=1_000_000)
+        for refusal, wrong in (
+                (1, (49, 0, 99_999, [], [], 0, 2, 1)), (2, (50, 0, 99_999, [], [], 0, 2, 1)),
+                (3, (50, 50, 99_999, [], [], 0, 2, 1)),
+                (4, (100_000, 25_000_000, 40_000, [], [], 0, 2, 1)),
+                (5, (*self.small, [], marks, 0, 2, 1)), (6, (*self.small, counts, marks, 0, 2, 1)),
+                (7, (*self.small, [U32] * 4096, [0] * 64, 100, 2, 1)),
+                (8, (*self.small, counts, [0] * 64, 100, 2, 1)),
+                (9, (*self.large, crowd, marks, 100, 2, 1)),
+                (10, (*self.large, crowd, marks, 100, 0, 1)),
+                (11, (*self.large, crowd, marks, 100, 1, 1)),
+                (12, (*self.large, crowd, marks, 25_000_000, 0, 0))):
+            with self.subTest(refusal):
+                answer = g.assessment(*wrong)
+                self.assertEqual(answer.refusal, refusal)
+                self.assertEqual(answer.final, 0)
+                self.assertEqual(answer.sheet == g.refused_sheet(refusal), refusal <= 4)
+                self.assertEqual(answer.footprint.cells, 0 if refusal <= 8 else 1)
+                self.assertEqual(answer.intrinsic != 0, refusal >= 11)
+
+    def test_working(self):
+        marks = one_cell(0)
+        crowd = some_counts(p0=50_000)
+        self.assertEqual(g.working(2, crowd, marks, 1_000_000, 0, 0), (12, 8, None))
+        self.assertEqual(g.working(2, crowd, marks, 1_000_000, 0, 2), (0, 8, 7))
+        self.assertEqual(g.working(3, crowd, marks, 1_000_000, 0, 2), (10, None, None))
+        self.assertEqual(g.working(3, crowd, marks, 1_000_000, 1, 1), (11, 2, None))
+        self.assertEqual(g.working(3, crowd, marks, 1_000_000, 2, 1), (9, None, None))
+        self.assertEqual(g.working(3, crowd, [0] * 64, 1_000_000, 2, 1), (8, None, None))
+
+
+if __name__ == "__main__":
+    unittest.main()

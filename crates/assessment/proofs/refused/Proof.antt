@@ -1,0 +1,13 @@
+-- `refused` gives zeros beside the refusal.
+use borrow.Author.Needs.{needs}
+use Rattle.assessment.proofs.refused.Statement.{statement}
+use Rattle.assessment.proofs.refused.Tie as tie
+
+refused-requires : tie.Need-refused-requires
+refused-requires c κs = search needs
+
+returns : tie.Need-returns
+returns c = cc
+
+pub refused-spec : {M : Type 1} → statement M
+refused-spec = tie.close (tie.spec refused-requires returns)

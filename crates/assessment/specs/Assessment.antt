@@ -1,0 +1,52 @@
+-- An aircraft's assessment over a lent map: its sheet, its footprint and both classes, or the first refusal.
+use mathlib.Core.Bool.{cond}
+use mathlib.Core.List.{List}
+use mathlib.Core.Path.{_≡_}
+use Prim.Native.Nat.{ℕ, _≤_}
+use lib.Dec.{eqb}
+use lib.IntN.{ℤ, pos}
+use Rattle.sheet.specs.declared.Sheet.{Sheet}
+use Rattle.sheet.specs.Sheet.{zeroSheet, sheetOf}
+use Rattle.footprint.specs.declared.Footprint.{Footprint}
+use Rattle.footprint.specs.Map.{refusedFootprint, footprintOf}
+use Rattle.risk_class.specs.ClassTable.{usedRow}
+use Rattle.assessment.specs.Working.{Given, given, notGiven, Working, workingOn}
+use Rattle.assessment.specs.declared.Assessment.{Assessment}
+
+-- after a refusal every number is zero
+abbrev pub refusedAssessment : ℕ → Assessment
+refusedAssessment n =
+    record { refusal = n; sheet = zeroSheet; footprint = refusedFootprint 0; «row_used» = 0; intrinsic = 0; «final_class» = pos 0 }
+
+-- a class that is given, or zero
+abbrev pub classIn : {A : Type 0} → A → Given A → A
+classIn zero (given class) = class
+classIn zero notGiven = zero
+
+-- the working at the sheet's column, with the class table's row that was used
+unfoldable pub assessedBy : Sheet → Footprint → ℕ → Working → Assessment
+assessedBy sheet footprint controlled working =
+    cond (eqb (working .refusal) 0)
+    (record {
+      refusal = 0;
+      sheet = sheet;
+      footprint = footprint;
+      «row_used» = usedRow (footprint .row) controlled;
+      intrinsic = classIn 0 (working .intrinsic);
+      «final_class» = classIn (pos 0) (working .final);
+    })
+    (refusedAssessment (working .refusal))
+
+-- "tested in the order: .. sheet, footprint, class, mitigation"
+unfoldable pub assessmentOf : ℕ → ℕ → ℕ → List ℕ → List ℕ → ℕ → ℕ → ℕ → Assessment
+assessmentOf w m v counts marks area controlled word =
+    let answer = sheetOf w m v
+    in let footprint = footprintOf counts marks area
+    in cond (eqb (answer .refusal) 0)
+    (assessedBy (answer .sheet) footprint controlled (workingOn (answer .sheet .column) footprint controlled word))
+    (refusedAssessment (answer .refusal))
+
+-- the refusal is one of those that document 01 lists for sheet, footprint, class and mitigation; where it isn't 0 every other number is zero
+pub record AssessmentIsGivenOrZero (a : Assessment) : Type 0 where
+  pub listed : a .refusal ≤ 12
+  pub zero : (a .refusal ≡ 0 → ⊥) → a ≡ refusedAssessment (a .refusal)

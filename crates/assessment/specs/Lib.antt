@@ -1,0 +1,3 @@
+pub mod Working
+pub mod Assessment
+pub mod Demand3
