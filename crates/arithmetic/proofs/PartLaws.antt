@@ -9,7 +9,7 @@ use native.Mathlib.Omega.{arith}
 use lib.ListN.{length, getD, take, drop, set, length-append, length-drop, length-take, length-set, take-append-drop, drop-of-length-le}
 use lib.Seq.{take-take, take-add, take-at, drop-at, drop-drop, drop-cons, set-at, take-all, take-suc, getD-take, getD-drop, length-take-le}
 use borrow.Rule.Slice.PartMut.{putMid, midOf}
-use Rattle.arithmetic.specs.Lists.{tabulate, joined}
+use Rattle.arithmetic.specs.Lists.{tabulate, joined, stored}
 use Rattle.arithmetic.proofs.TestLaws.{lt-or-le}
 use Rattle.arithmetic.proofs.ListLaws.{length-tabulate, length-joined}
 
@@ -140,6 +140,10 @@ module _ {old : List ℕ} {a : ℕ} {done b : List ℕ} where
         kept = simp length-set (s .kept);
       }
 
+  -- a callee put x from a on
+  pub stored-next : (x : List ℕ) → a + length x ≤ length old → Filled old a done b → Filled old (a + length x) (done ++ x) (stored a x b)
+  stored-next x h s = part-next (length x) x x h s refl refl
+
   pub filled-all : length old ≤ a → Filled old a done b → b ≡ done
   filled-all h s = s .is ∙ rw (drop-of-length-le old h, append-nil)
 
@@ -164,3 +168,21 @@ row-next w r f old b d h s l e =
     let wide : w * r + w - w * r ≡ w = omega arith in
     let next : w * suc r ≡ w * r + w = omega arith in
     rw (wide, add-one, next) (part-next w (f r) d h s l e)
+
+-- the part from a on, and nothing else, was filled with x
+pub filled-stored : {old : List ℕ} {b : List ℕ} (a : ℕ) (x : List ℕ) → Filled old (a + length x) (take a old ++ x) b → b ≡ stored a x old
+filled-stored {old = old} a x s = s .is ∙ rw (append-assoc, drop-drop (length x) a old)
+
+-- x at the start, and y right after it
+pub stored-after : (old b c x y : List ℕ) (a : ℕ) → length x ≡ a → b ≡ stored 0 x old → c ≡ stored a y b → c ≡ stored 0 (x ++ y) old
+stored-after old b c x y a l p q =
+    let d = drop (length x) old in
+    let place = drop-drop (length y) (length x) old in
+    q ∙ rw (p, take-at x d a l, drop-at x d a l, append-assoc, length-append, place)
+
+-- one element more after x
+pub stored-more : (old b x : List ℕ) (a e : ℕ) → length x ≡ a → a < length old → b ≡ stored 0 x old → set b a e ≡ stored 0 (x ++ (e ∷ [])) old
+stored-more old b x a e l h p =
+    let filled : Filled old a x b = record { is = rw l at p; long = l; kept = ap length p ∙ simp (length-append, length-drop) (omega arith) } in
+    let long : length (x ++ (e ∷ [])) ≡ a + 1 = simp length-append (omega arith) in
+    rw long (store-next e h filled .is)
