@@ -10,6 +10,13 @@ use tests::reading_refusal;
 ghost use mathlib.Core.Path.{_≡_};
 ghost use Rattle.case_text.specs.Text.{noHead, ReadingPromise};
 
+// How long a text is, and how many counts and footprint rows it has.
+pub const TEXT_LENGTH: usize = layout::TEXT;
+
+pub const COUNTS_LENGTH: usize = layout::CELLS;
+
+pub const MARKS_LENGTH: usize = layout::ROWS;
+
 // Line 1 of a case text.
 pub struct CaseHead {
     pub dimension: u32,

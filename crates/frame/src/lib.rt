@@ -33,6 +33,9 @@ const END: usize = FINAL + 2;
 
 pub const FRAME_LENGTH: usize = END + 1;
 
+// How long the line of a printed refusal is.
+pub const REFUSAL_LENGTH: usize = LOW + 1;
+
 // The fields of a printed frame. Of a number that is longer than its field, the last digits are printed.
 pub struct FrameFields {
     pub low: u64,
