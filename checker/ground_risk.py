@@ -370,30 +370,35 @@ def working_from_row(column, row, controlled_mark, word):
 
 
 class Assessment(NamedTuple):
-    """What comes after the first refusal is zero, and so is the refused part."""
     refusal: int
     sheet: Sheet
     footprint: Footprint
+    row_used: int
     intrinsic: int
     final: int
 
 
+def refused_assessment(refusal):
+    # Demand 1: "after a refusal every number is zero"
+    return Assessment(refusal, refused_sheet(0), Footprint(0, 0, 0, 0, 0), 0, 0, 0)
+
+
 def assessment(w, m, v, counts, marks, cell_area, controlled_mark, word):
     # "sheet, footprint, class, mitigation; the first refusal"
-    no_footprint = Footprint(0, 0, 0, 0, 0)
     aircraft = sheet(w, m, v)
     if aircraft.refusal != 0:
-        return Assessment(aircraft.refusal, aircraft, no_footprint, 0, 0)
+        return refused_assessment(aircraft.refusal)
     ground = footprint(counts, marks, cell_area)
     if ground.refusal != 0:
-        return Assessment(ground.refusal, aircraft, ground, 0, 0)
+        return refused_assessment(ground.refusal)
     refusal, intrinsic = intrinsic_class(aircraft.column, ground.row, controlled_mark)
     if refusal != 0:
-        return Assessment(refusal, aircraft, ground, 0, 0)
+        return refused_assessment(refusal)
     refusal, final = final_class(aircraft.column, intrinsic, word)
     if refusal != 0:
-        return Assessment(refusal, aircraft, ground, intrinsic, 0)
-    return Assessment(0, aircraft, ground, intrinsic, final)
+        return refused_assessment(refusal)
+    return Assessment(0, aircraft, ground, row_used(ground.row, controlled_mark),
+                      intrinsic, final)
 
 
 # ---------------------------------------------------------------------------
@@ -525,7 +530,7 @@ def frame_text(outcome):
                          digits_of(outcome.column, 2), digits_of(outcome.flag, 2),
                          digits_of(outcome.row, 2), digits_of(outcome.place, 4),
                          digits_of(outcome.people, 8), digits_of(outcome.intrinsic, 2),
-                         digits_of(outcome.final, 2), b"\n"])
+                         digits_of(255 if outcome.final < 0 else outcome.final, 2), b"\n"])
     # "A refused case gives its number as two digits and a line end instead."
     return digits_of(outcome, 2) + b"\n"
 
@@ -573,7 +578,7 @@ def case(text, counts_buffer, marks_buffer, frame_buffer):
         frame = write_frame(answer.refusal, frame_buffer).frame
         return CaseAnswer(answer.refusal, reading.counts, reading.marks, frame)
     outcome = Frame(answer.sheet.area.low, answer.sheet.area.high, answer.sheet.column,
-                    answer.sheet.flag, row_used(answer.footprint.row, fields.controlled_mark),
+                    answer.sheet.flag, answer.row_used,
                     answer.footprint.place, answer.footprint.people,
                     answer.intrinsic, answer.final)
     frame = write_frame(outcome, frame_buffer).frame

@@ -149,13 +149,13 @@ def kinds_of(case):
             if digit not in offered:
                 names.append(f"{name} digit not offered, refusal 11")
     if refusal == 12:
-        answer = g.assessment(*aircraft, reading.counts, reading.marks, fields.cell_area,
-                              fields.controlled_mark, fields.word)
+        work = g.working(g.sheet(*aircraft).column, reading.counts, reading.marks,
+                         fields.cell_area, fields.controlled_mark, fields.word)
         m1a, m1b, m1c, m2 = g.word_digits(fields.word)
         credits = (g.M1A_CREDITS[m1a] + g.M1B_CREDITS[m1b] + g.M1C_CREDITS[m1c]
                    + g.M2_CREDITS[m2])
         # The floors are 3 at most, so none of them stopped a class above 7.
-        names.append(f"refusal 12, final class would be {answer.intrinsic - credits}")
+        names.append(f"refusal 12, final class would be {work.intrinsic - credits}")
     if refusal != 0:
         return names
 

@@ -321,7 +321,9 @@ class AssessmentTest(unittest.TestCase):
 
     def test_answer(self):
         answer = g.assessment(*self.small, some_counts(p0=8), one_cell(0), 10_000, 0, 0x1000)
-        self.assertEqual(answer, (0, g.sheet(*self.small), (0, 5, 0, 8, 1), 5, 4))
+        self.assertEqual(answer, (0, g.sheet(*self.small), (0, 5, 0, 8, 1), 5, 5, 4))
+        answer = g.assessment(*self.small, some_counts(p0=8), one_cell(0), 10_000, 1, 0)
+        self.assertEqual(answer, (0, g.sheet(*self.small), (0, 5, 0, 8, 1), 1, 1, 1))
 
     def test_first_refusal(self):
         counts, marks = some_counts(p0=8), one_cell(0)
@@ -339,11 +341,7 @@ class AssessmentTest(unittest.TestCase):
                 (12, (*self.large, crowd, marks, 25_000_000, 0, 0))):
             with self.subTest(refusal):
                 answer = g.assessment(*wrong)
-                self.assertEqual(answer.refusal, refusal)
-                self.assertEqual(answer.final, 0)
-                self.assertEqual(answer.sheet == g.refused_sheet(refusal), refusal <= 4)
-                self.assertEqual(answer.footprint.cells, 0 if refusal <= 8 else 1)
-                self.assertEqual(answer.intrinsic != 0, refusal >= 11)
+                self.assertEqual(answer, g.refused_assessment(refusal))
 
     def test_working(self):
         marks = one_cell(0)

@@ -2,3 +2,5 @@ pub mod TestLaws
 pub mod RoundingLaws
 pub mod FractionLaws
 pub mod SumLaws
+pub mod ListLaws
+pub mod PartLaws

@@ -1,6 +1,6 @@
 -- Laws of sums, maxima and first maxima over 0, .., n - 1: equal values, larger values, one index more, two runs, rows of one width.
 use mathlib.Core.Path.{_≡_, refl, sym, ap, ap₂, _∙_}
-use mathlib.Core.Logic.{_⊎_, inl, inr, ⊎-elim}
+use mathlib.Core.Logic.{⊎-elim}
 use mathlib.Core.Bool.{Bool, true, false, cond}
 use Prim.Native.Nat.{ℕ, zero, suc, _+_, _-_, _*_, _/_, _%_, _^_, _≤_, _<_, max}
 use native.Mathlib.Nat.{add-zero, add-suc, le-suc, le-refl, le-trans, max-zero, max-eq-left, max-eq-right, le-of-lt, div-div-eq-div-mul, pow-succ'}

@@ -91,3 +91,9 @@ module _ (p : ℕ → Bool) where
       by-test : (t : Bool) → p i ≡ t → p i ≡ false
       by-test true e = absurd (true≢false (sym (any-is n i l e) ∙ h))
       by-test false e = e
+
+  pub none-any : (n : ℕ) → ((i : ℕ) → i < n → p i ≡ false) → anyBelow p n ≡ false
+  unfolding anyBelow
+  none-any zero h = refl
+  none-any (suc n) h =
+      ap (λ (t : Bool). t || p n) (none-any n (λ i l. h i (omega arith))) ∙ h n (omega arith)

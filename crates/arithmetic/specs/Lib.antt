@@ -2,4 +2,5 @@ pub mod Tests
 pub mod Rounding
 pub mod Fraction
 pub mod SumsAndMaxima
+pub mod Lists
 pub mod Each

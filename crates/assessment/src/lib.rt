@@ -21,7 +21,7 @@ pub struct Assessment {
 }
 
 // A refused assessment: every other number is zero.
-fn refused(refusal: u8) -> Assessment
+pub fn refused_with(refusal: u8) -> Assessment
     ensures { λ r. ⌜ r ≡ refusedAssessment refusal ⌝ }
 {
     let sheet = Sheet::refused();
@@ -58,20 +58,20 @@ pub fn assess(
 {
     let answer = sheet_of(dimension, mass, speed);
     if answer.refusal != 0 {
-        return refused(answer.refusal);
+        return refused_with(answer.refusal);
     }
     let footprint = footprint_on_map(counts, marks, cell_area);
     if footprint.refusal != 0 {
-        return refused(footprint.refusal);
+        return refused_with(footprint.refusal);
     }
     let sheet = answer.sheet;
     let intrinsic = intrinsic_class(sheet.column, footprint.row, controlled);
     if intrinsic.refusal != 0 {
-        return refused(intrinsic.refusal);
+        return refused_with(intrinsic.refusal);
     }
     let last = final_class(sheet.column, intrinsic.class, word);
     if last.refusal != 0 {
-        return refused(last.refusal);
+        return refused_with(last.refusal);
     }
     let row_used = used_row(footprint.row, controlled);
     Assessment {

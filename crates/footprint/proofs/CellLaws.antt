@@ -1,7 +1,7 @@
 -- Laws of one cell and of sums and maxima of marked cells: marks, keys, and the table row, which keeps the order of the counts.
-use mathlib.Core.Path.{_≡_, refl, sym, ap, _∙_}
+use mathlib.Core.Path.{_≡_, refl, _∙_}
 use mathlib.Core.Logic.{⊎-elim}
-use mathlib.Core.Bool.{Bool, cond}
+use mathlib.Core.Bool.{cond}
 use mathlib.Core.List.{List}
 use Prim.Native.Nat.{ℕ, zero, suc, _+_, _-_, _*_, _/_, _%_, _^_, _≤_, _<_, zero-le}
 use native.Mathlib.Nat.{le-refl, le-trans, not-suc-le-zero, le-of-suc-le-suc, zero-mul, one-mul, mul-le-mul-right}
@@ -9,7 +9,7 @@ use native.Mathlib.Numerals.{add-one}
 use native.Mathlib.Omega.{arith}
 use borrow.Author.Tests.{lt-ltb, le-ltb}
 use lib.Count.{ones}
-use lib.Dec.{ltb, lit≤}
+use lib.Dec.{lit≤}
 use Rattle.arithmetic.specs.SumsAndMaxima.{sumBelow, maxBelow}
 use Rattle.arithmetic.proofs.TestLaws.{lt-or-le, cond-le, le-cond}
 use Rattle.arithmetic.proofs.SumLaws.{sum-same, max-same, max-map, ones-sum}

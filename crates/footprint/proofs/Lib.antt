@@ -1,3 +1,5 @@
 pub mod CellLaws
 pub mod WalkLaws
 pub mod AnswerLaws
+pub mod Promises
+pub mod Points

@@ -1,9 +1,9 @@
 -- Laws of the walk: what a map row's loop leaves, a map row lent as a part, the map with one row more, and the answer from the whole.
 use mathlib.Core.Path.{_≡_, refl, sym, ap, ap₂, _∙_}
-use mathlib.Core.Bool.{Bool, false, cond}
+use mathlib.Core.Bool.{false, cond}
 use mathlib.Core.List.{List}
 use Prim.Native.Nat.{ℕ, zero, suc, _+_, _-_, _*_, _/_, _%_, _^_, _≤_, _<_}
-use native.Mathlib.Nat.{zero-div, zero-mul, le-trans, le-refl, le-of-suc-le-suc}
+use native.Mathlib.Nat.{zero-div, le-trans, le-of-suc-le-suc}
 use native.Mathlib.Omega.{arith}
 use borrow.Author.Tests.{ltb-false}
 use lib.Count.{ones}
@@ -15,7 +15,6 @@ use Rattle.arithmetic.proofs.TestLaws.{any-none}
 use Rattle.arithmetic.proofs.SumLaws.{sum-same, max-same, first-same, sum-add, max-add, first-next, sum-le, max-le, first-lt, first-at, max-rows, first-rows, firstInRow}
 use Rattle.footprint.specs.Map.{mapCells, mapRows, rowCells, largestCount, countAt, bitAt, markAt, keyAt, tableRow, highestRow, firstLargest, cellsIn, wrongCount, foundFootprint}
 use Rattle.footprint.specs.Walk.{rowKey, rowWalk, withRow, rowWorst, mapWalk}
-use Rattle.footprint.specs.declared.Footprint.{Footprint}
 use Rattle.footprint.specs.declared.walk.RowWalk.{RowWalk}
 use Rattle.footprint.specs.declared.walk.MapWalk.{MapWalk}
 use Rattle.footprint.proofs.CellLaws.{mark-lt, marked-le, ones-of-row, sum-keys, no-key, rowOfKey, row-of-largest}
@@ -78,7 +77,7 @@ module _ (counts marks : List ℕ) (r : ℕ) where
   pub lent-small : r < mapRows → wrongCount counts ≡ false → (i : ℕ) → i < rowCells → countAt lent i ≤ largestCount
   lent-small h s i l = omega (arith, lent-at i l, counts-small counts s (rowCells * r + i) (omega arith))
 
-  mark-here : (i : ℕ) → i < rowCells → bitAt (getD marks r 0) i ≡ markAt marks (rowCells * r + i)
+  pub mark-here : (i : ℕ) → i < rowCells → bitAt (getD marks r 0) i ≡ markAt marks (rowCells * r + i)
   mark-here i l =
       let q : (rowCells * r + i) / rowCells ≡ r = omega arith in
       let m : (rowCells * r + i) % rowCells ≡ i = omega arith in rw (q, m)

@@ -1,2 +1,4 @@
 pub mod Map
 pub mod Walk
+pub mod Promises
+pub mod Points

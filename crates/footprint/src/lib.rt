@@ -8,9 +8,9 @@ use crate::walk::first_worst;
 use crate::walk::walk_map;
 ghost use mathlib.Core.Path.{_≡_};
 ghost use mathlib.Core.Bool.{false};
-ghost use Prim.Native.Nat.{ℕ, _<_, _≤_};
-ghost use lib.ListN.{length, getD};
-ghost use Rattle.footprint.specs.Map.{mapCells, mapRows, wrongLength, wrongCount, noMark, refusedFootprint, foundFootprint, footprintOf};
+ghost use Prim.Native.Nat.{_<_};
+ghost use lib.ListN.{length};
+ghost use Rattle.footprint.specs.Map.{mapCells, mapRows, wrongCount, refusedFootprint, foundFootprint, footprintOf};
 ghost use Rattle.footprint.specs.Walk.{mapWalk};
 
 // A map is MAP_ROWS rows of ROW_CELLS cells.

@@ -5,7 +5,7 @@ use crate::cell::key;
 ghost use mathlib.Core.Path.{_≡_};
 ghost use mathlib.Core.Bool.{false};
 ghost use Prim.Native.Nat.{ℕ, _+_, _*_, _^_, _<_, _≤_, max};
-ghost use lib.ListN.{length, getD};
+ghost use lib.ListN.{length};
 ghost use Rattle.arithmetic.specs.SumsAndMaxima.{maxBelow, firstMaxBelow};
 ghost use Rattle.footprint.specs.Map.{mapCells, mapRows, rowCells, largestCount, countAt, wrongCount};
 ghost use Rattle.footprint.specs.Walk.{rowKey, rowWalk, withRow, mapWalk};

@@ -1,6 +1,6 @@
 -- The class table's answer: a law for each way that it can come out.
 use mathlib.Core.Path.{_≡_, sym, _∙_}
-use mathlib.Core.Bool.{Bool, true, false, _||_}
+use mathlib.Core.Bool.{true, false, _||_}
 use Prim.Native.Nat.{ℕ, _≤_}
 use native.Mathlib.Omega.{arith}
 use borrow.Author.Tests.{eq-eqb, ne-eqb, ltb-false}
@@ -8,7 +8,6 @@ use lib.Dec.{ltb, eqb}
 use Rattle.arithmetic.specs.Tests.{outside}
 use Rattle.arithmetic.proofs.TestLaws.{neither, inside, cond-le, le-cond}
 use Rattle.risk_class.specs.ClassTable.{noClass, classAt, usedRow, wrongColumn, wrongReading, classRefusal, intrinsicClassOf}
-use Rattle.risk_class.specs.declared.class_table.IntrinsicClass.{IntrinsicClass}
 
 pub record Reading (column row controlled : ℕ) : Type 0 where
   pub column-ge : 1 ≤ column

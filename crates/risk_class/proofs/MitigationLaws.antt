@@ -1,7 +1,7 @@
 -- The mitigation word's answer: a law for each way that it can come out, and the credits of a word that is offered.
 use mathlib.Core.Path.{_≡_, sym, ap, _∙_}
-use mathlib.Core.Bool.{Bool, true, false, not, _||_}
-use Prim.Native.Nat.{ℕ, _≤_, _/_, _%_, _^_, _-_}
+use mathlib.Core.Bool.{Bool, true, false, _||_}
+use Prim.Native.Nat.{ℕ, _≤_}
 use native.Mathlib.Omega.{arith}
 use borrow.Author.Tests.{eqb-false}
 use lib.Dec.{eqb}
@@ -10,7 +10,6 @@ use lib.Signed.{ltZ}
 use Rattle.arithmetic.proofs.TestLaws.{neither}
 use Rattle.risk_class.specs.ClassTable.{wrongColumn}
 use Rattle.risk_class.specs.Mitigation.{notOffered, creditOf, anyNotOffered, isEntry, finalClass, mitigationRefusal, refusedFinal, finalClassOf}
-use Rattle.risk_class.specs.declared.mitigation.FinalClass.{FinalClass}
 use Rattle.risk_class.proofs.TableLaws.{credit-le}
 
 module _ (column class word : ℕ) where

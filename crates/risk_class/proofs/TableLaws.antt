@@ -1,13 +1,12 @@
 -- Rules of the class table and of the credits: each is one test computed over the whole table, and the rule at each entry.
 use mathlib.Core.Path.{_≡_, refl, sym, ap, ap₂, _∙_}
 use mathlib.Core.Bool.{Bool, true, false, _||_, _&&_}
-use Prim.Native.Nat.{ℕ, zero, suc, _+_, _-_, _≤_, _<_}
-use native.Mathlib.Nat.{le-trans, le-of-eq}
+use Prim.Native.Nat.{ℕ, suc, _+_, _-_, _≤_}
 use native.Mathlib.Omega.{arith}
-use borrow.Author.Tests.{le-ltb, lt-ltb, ne-eqb, ltb-true, leb-true, eqb-true}
+use borrow.Author.Tests.{le-ltb, ne-eqb, ltb-true, leb-true, eqb-true}
 use lib.Dec.{ltb, leb, eqb}
 use Rattle.arithmetic.specs.Tests.{anyBelow}
-use Rattle.arithmetic.proofs.TestLaws.{lt-or-le, both, allBelow, all-below, any-some}
+use Rattle.arithmetic.proofs.TestLaws.{both, allBelow, all-below, any-some}
 use Rattle.risk_class.specs.ClassTable.{classAt, noClass}
 use Rattle.risk_class.specs.Mitigation.{notOffered, creditAt, isEntry}
 

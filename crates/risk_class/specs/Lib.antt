@@ -1,2 +1,4 @@
 pub mod ClassTable
 pub mod Mitigation
+pub mod Promises
+pub mod Points

@@ -1,7 +1,7 @@
 // The mitigation word.
 use crate::class_table::entry;
 ghost use mathlib.Core.Path.{_≡_};
-ghost use Prim.Native.Nat.{ℕ, _+_, _-_, _<_, _≤_, max};
+ghost use Prim.Native.Nat.{_+_, _-_, _<_, _≤_, max};
 ghost use lib.Dec.{eqb};
 ghost use lib.IntN.{subℕ};
 ghost use Rattle.arithmetic.specs.Tests.{anyBelow};

@@ -10,44 +10,44 @@ use Rattle.assessment.proofs.assess.Tie as tie
 sheet-of-requires : tie.Need-sheet-of-requires
 sheet-of-requires c κs = search needs
 
-refused-requires : tie.Need-refused-requires
-refused-requires c κs = search needs
+refused-with-requires : tie.Need-refused-with-requires
+refused-with-requires c κs = search needs
 
 returns : tie.Need-returns
 returns c =
     let s = c .before .before .before
-    in c .refused .ensures ∙ ended-by-sheet _ _ _ _ _ _ _ _ (s .sheet-of .ensures) (c .before .if1 .taken)
+    in c .refused-with .ensures ∙ ended-by-sheet _ _ _ _ _ _ _ _ (s .sheet-of .ensures) (c .before .if1 .taken)
 
 footprint-on-map-requires : tie.Need-footprint-on-map-requires
 footprint-on-map-requires c κs = search needs
 
-refused-requires-2 : tie.Need-refused-requires-2
-refused-requires-2 c κs = search needs
+refused-with-requires-2 : tie.Need-refused-with-requires-2
+refused-with-requires-2 c κs = search needs
 
 returns-2 : tie.Need-returns-2
 returns-2 c =
     let f = c .before .before .before
     in let s = f .before .before .before
-    in c .refused2 .ensures ∙ ended-by-footprint _ _ _ _ _ _ _ _ (s .sheet-of .ensures) (f .before .if1 .left) (f .footprint-on-map .ensures) (c .before .if2 .taken)
+    in c .refused-with2 .ensures ∙ ended-by-footprint _ _ _ _ _ _ _ _ (s .sheet-of .ensures) (f .before .if1 .left) (f .footprint-on-map .ensures) (c .before .if2 .taken)
 
 intrinsic-class-requires : tie.Need-intrinsic-class-requires
 intrinsic-class-requires c κs = search needs
 
-refused-requires-3 : tie.Need-refused-requires-3
-refused-requires-3 c κs = search needs
+refused-with-requires-3 : tie.Need-refused-with-requires-3
+refused-with-requires-3 c κs = search needs
 
 returns-3 : tie.Need-returns-3
 returns-3 c =
     let i = c .before .before .before
     in let f = i .before .before .before .before
     in let s = f .before .before .before
-    in c .refused3 .ensures ∙ ended-by-class _ _ _ _ _ _ _ _ (s .sheet-of .ensures) (f .before .if1 .left) (f .footprint-on-map .ensures) (i .before .before .if2 .left) (i .intrinsic-class .ensures) (c .before .if3 .taken)
+    in c .refused-with3 .ensures ∙ ended-by-class _ _ _ _ _ _ _ _ (s .sheet-of .ensures) (f .before .if1 .left) (f .footprint-on-map .ensures) (i .before .before .if2 .left) (i .intrinsic-class .ensures) (c .before .if3 .taken)
 
 final-class-requires : tie.Need-final-class-requires
 final-class-requires c κs = search needs
 
-refused-requires-4 : tie.Need-refused-requires-4
-refused-requires-4 c κs = search needs
+refused-with-requires-4 : tie.Need-refused-with-requires-4
+refused-with-requires-4 c κs = search needs
 
 returns-4 : tie.Need-returns-4
 returns-4 c =
@@ -55,7 +55,7 @@ returns-4 c =
     in let i = k .before .before .before
     in let f = i .before .before .before .before
     in let s = f .before .before .before
-    in c .refused4 .ensures ∙ ended-by-mitigation _ _ _ _ _ _ _ _ (s .sheet-of .ensures) (f .before .if1 .left) (f .footprint-on-map .ensures) (i .before .before .if2 .left) (i .intrinsic-class .ensures) (k .before .if3 .left) (k .final-class .ensures) (c .before .if4 .taken)
+    in c .refused-with4 .ensures ∙ ended-by-mitigation _ _ _ _ _ _ _ _ (s .sheet-of .ensures) (f .before .if1 .left) (f .footprint-on-map .ensures) (i .before .before .if2 .left) (i .intrinsic-class .ensures) (k .before .if3 .left) (k .final-class .ensures) (c .before .if4 .taken)
 
 used-row-requires : tie.Need-used-row-requires
 used-row-requires c κs = search needs
@@ -73,16 +73,16 @@ assess-spec =
     tie.close
     (tie.spec
     sheet-of-requires
-    refused-requires
+    refused-with-requires
     returns
     footprint-on-map-requires
-    refused-requires-2
+    refused-with-requires-2
     returns-2
     intrinsic-class-requires
-    refused-requires-3
+    refused-with-requires-3
     returns-3
     final-class-requires
-    refused-requires-4
+    refused-with-requires-4
     returns-4
     used-row-requires
     returns-5)

@@ -1,5 +1,4 @@
 -- `footprint::found` meets its contract: the first worst row is a row of the map, and its first worst cell is the map's.
-use mathlib.Core.Path.{_≡_}
 use Prim.Native.Nat.{_+_, _*_, _<_}
 use native.Mathlib.Omega.{arith}
 use borrow.Author.Needs.{needs}

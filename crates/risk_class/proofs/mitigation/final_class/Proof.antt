@@ -11,7 +11,7 @@ use mir.Facts.{toZ-ofZ}
 use mir.Syntax.{w8}
 use mir.Val.{ofZ, toZ}
 use Rattle.arithmetic.proofs.TestLaws.{inside}
-use Rattle.risk_class.specs.ClassTable.{classAt, wrongColumn}
+use Rattle.risk_class.specs.ClassTable.{wrongColumn}
 use Rattle.risk_class.specs.Mitigation.{creditAt, creditOf, anyNotOffered, isEntry, finalClass}
 use Rattle.risk_class.specs.declared.mitigation.FinalClass.{FinalClass}
 use Rattle.risk_class.proofs.TableLaws.{class-le, floor-in, entry-row}

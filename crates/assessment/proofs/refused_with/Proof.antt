@@ -1,0 +1,13 @@
+-- `refused_with` gives zeros beside the refusal.
+use borrow.Author.Needs.{needs}
+use Rattle.assessment.proofs.refused_with.Statement.{statement}
+use Rattle.assessment.proofs.refused_with.Tie as tie
+
+refused-requires : tie.Need-refused-requires
+refused-requires c κs = search needs
+
+returns : tie.Need-returns
+returns c = cc
+
+pub refused-with-spec : {M : Type 1} → statement M
+refused-with-spec = tie.close (tie.spec refused-requires returns)

@@ -1,0 +1,91 @@
+-- `case_text::fill::fill_marks` meets its contract.
+use borrow.Author.Needs.{needs}
+use native.Mathlib.Omega.{arith}
+use Prim.Native.Nat.{ℕ, _≤_, _-_}
+use mathlib.Core.Path.{_≡_}
+use denote.Ref.{now}
+use Rattle.arithmetic.specs.Lists.{tabulate}
+use Rattle.arithmetic.proofs.PartLaws.{Filled, rule-none, rule-next, filled-all}
+use Rattle.case_text.specs.Text.{markOf, marksOf}
+use Rattle.case_text.proofs.fill.fill_marks.Statement.{statement}
+use Rattle.case_text.proofs.fill.fill_marks.Tie as tie
+
+abbrev Inv-loop : tie.InvT-loop
+Inv-loop text marks₀ k₀ marks k = (k ≤ 64) × Filled marks₀ k (tabulate (markOf text) k) marks
+
+abbrev μ-loop : tie.MeasureT-loop
+μ-loop text marks₀ k₀ marks k = 64 - k
+
+loop-holds : tie.Need-loop-holds Inv-loop μ-loop
+loop-holds c = (search needs, rule-none _ _)
+
+mul-at : tie.Need-mul-at Inv-loop μ-loop
+mul-at c = omega arith
+
+add-at : tie.Need-add-at Inv-loop μ-loop
+add-at c = omega arith
+
+add-number-of-sixteen : tie.Need-add-number-of-sixteen Inv-loop μ-loop
+add-number-of-sixteen c = omega arith
+
+sub-number-of-sixteen : tie.Need-sub-number-of-sixteen Inv-loop μ-loop
+sub-number-of-sixteen c = omega arith
+
+part-number-of-sixteen-start : tie.Need-part-number-of-sixteen-start Inv-loop μ-loop
+part-number-of-sixteen-start c = omega arith
+
+part-number-of-sixteen-end : tie.Need-part-number-of-sixteen-end Inv-loop μ-loop
+part-number-of-sixteen-end c = omega arith
+
+number-of-sixteen-requires : tie.Need-number-of-sixteen-requires Inv-loop μ-loop
+number-of-sixteen-requires c κs = search needs
+
+mul-marks : tie.Need-mul-marks Inv-loop μ-loop
+mul-marks c = omega arith
+
+slice-write-marks : tie.Need-slice-write-marks Inv-loop μ-loop
+slice-write-marks c = omega arith
+
+add-k : tie.Need-add-k Inv-loop μ-loop
+add-k c = omega arith
+
+loop-less : tie.Need-loop-less Inv-loop μ-loop
+loop-less c = omega arith
+
+loop-again : tie.Need-loop-again Inv-loop μ-loop
+loop-again c =
+    let at-loop = c .before .before .before in
+    let start = at-loop .before .before .before in
+    (omega arith, rule-next (markOf (now (start .args .text))) (at-loop .loop .k) (c .number-of-sixteen .result) (now (start .args .marks)) (at-loop .loop .marks) (omega arith) (at-loop .loop .inv .1) (c .number-of-sixteen .ensures))
+
+same-length : tie.Need-same-length Inv-loop μ-loop
+same-length c = c .before .loop .inv .1 .kept
+
+returns : tie.Need-returns Inv-loop μ-loop
+unfolding marksOf
+returns c =
+    let start = c .before .before .before .before in
+    let past : c .before .loop .k ≡ 64 = omega arith in
+    filled-all (omega (arith, start .pre .1)) (rw past at (c .before .loop .inv .1))
+
+pub fill-marks-spec : {M : Type 1} → statement M
+fill-marks-spec =
+    tie.close
+    (tie.spec
+    Inv-loop
+    μ-loop
+    loop-holds
+    mul-at
+    add-at
+    add-number-of-sixteen
+    sub-number-of-sixteen
+    part-number-of-sixteen-start
+    part-number-of-sixteen-end
+    number-of-sixteen-requires
+    mul-marks
+    slice-write-marks
+    add-k
+    loop-less
+    loop-again
+    same-length
+    returns)

@@ -1,0 +1,86 @@
+-- `case_text::fill::words_of` meets its contract.
+use borrow.Author.Needs.{needs}
+use native.Mathlib.Omega.{arith}
+use Prim.Native.Nat.{ℕ, _≤_, _-_}
+use mathlib.Core.Path.{_≡_}
+use denote.Ref.{now}
+use Rattle.arithmetic.specs.Lists.{tabulate}
+use Rattle.arithmetic.proofs.PartLaws.{Filled, rule-none, rule-next, filled-all}
+use Rattle.case_text.proofs.ReadingLaws.{wordIn}
+use Rattle.case_text.proofs.fill.words_of.Statement.{statement}
+use Rattle.case_text.proofs.fill.words_of.Tie as tie
+
+abbrev Inv-loop : tie.InvT-loop
+Inv-loop line words₀ k₀ words k = (k ≤ 64) × Filled words₀ k (tabulate (wordIn line) k) words
+
+abbrev μ-loop : tie.MeasureT-loop
+μ-loop line words₀ k₀ words k = 64 - k
+
+loop-holds : tie.Need-loop-holds Inv-loop μ-loop
+loop-holds c = (search needs, rule-none _ _)
+
+mul-at : tie.Need-mul-at Inv-loop μ-loop
+mul-at c = omega arith
+
+add-word : tie.Need-add-word Inv-loop μ-loop
+add-word c = omega arith
+
+sub-word : tie.Need-sub-word Inv-loop μ-loop
+sub-word c = omega arith
+
+part-word-start : tie.Need-part-word-start Inv-loop μ-loop
+part-word-start c = omega arith
+
+part-word-end : tie.Need-part-word-end Inv-loop μ-loop
+part-word-end c = omega arith
+
+word-requires : tie.Need-word-requires Inv-loop μ-loop
+word-requires c κs = search needs
+
+mul-words : tie.Need-mul-words Inv-loop μ-loop
+mul-words c = omega arith
+
+slice-write-words : tie.Need-slice-write-words Inv-loop μ-loop
+slice-write-words c = omega arith
+
+add-k : tie.Need-add-k Inv-loop μ-loop
+add-k c = omega arith
+
+loop-less : tie.Need-loop-less Inv-loop μ-loop
+loop-less c = omega arith
+
+loop-again : tie.Need-loop-again Inv-loop μ-loop
+loop-again c =
+    let at-loop = c .before .before .before in
+    let start = at-loop .before .before .before in
+    (omega arith, rule-next (wordIn (now (start .args .line))) (at-loop .loop .k) (c .word .result) (now (start .args .words)) (at-loop .loop .words) (omega arith) (at-loop .loop .inv .1) (c .word .ensures))
+
+same-length : tie.Need-same-length Inv-loop μ-loop
+same-length c = c .before .loop .inv .1 .kept
+
+returns : tie.Need-returns Inv-loop μ-loop
+returns c =
+    let start = c .before .before .before .before in
+    let past : c .before .loop .k ≡ 64 = omega arith in
+    filled-all (omega (arith, start .pre .1)) (rw past at (c .before .loop .inv .1))
+
+pub words-of-spec : {M : Type 1} → statement M
+words-of-spec =
+    tie.close
+    (tie.spec
+    Inv-loop
+    μ-loop
+    loop-holds
+    mul-at
+    add-word
+    sub-word
+    part-word-start
+    part-word-end
+    word-requires
+    mul-words
+    slice-write-words
+    add-k
+    loop-less
+    loop-again
+    same-length
+    returns)

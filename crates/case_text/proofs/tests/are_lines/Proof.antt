@@ -1,0 +1,83 @@
+-- `case_text::tests::are_lines` meets its contract.
+use borrow.Author.Needs.{needs}
+use native.Mathlib.Omega.{arith}
+use Prim.Native.Nat.{ℕ, _≤_, _<_, _-_, _+_, _*_}
+use mathlib.Core.Path.{_≡_, refl}
+use lib.ListN.{length}
+use denote.Ref.{now}
+use Rattle.arithmetic.specs.Lists.{every, part}
+use Rattle.arithmetic.proofs.ListLaws.{every-one}
+use Rattle.arithmetic.proofs.PartLaws.{part-ends}
+use Rattle.hex.specs.Digits.{isLine}
+use Rattle.case_text.specs.Text.{areLines}
+use Rattle.case_text.proofs.tests.are_lines.Statement.{statement}
+use Rattle.case_text.proofs.tests.are_lines.Tie as tie
+
+abbrev Inv-loop : tie.InvT-loop
+Inv-loop s width n good₀ k₀ good k = (k ≤ n) × (good ≡ areLines s width k)
+
+abbrev μ-loop : tie.MeasureT-loop
+μ-loop s width n good₀ k₀ good k = n - k
+
+loop-holds : tie.Need-loop-holds Inv-loop μ-loop
+unfolding areLines every
+loop-holds c = (search needs, refl)
+
+mul-at : tie.Need-mul-at Inv-loop μ-loop
+mul-at c =
+    let start = c .before .before .before in
+    omega (arith, part-ends (c .before .loop .k) (start .args .n) (start .args .width) (length (now (start .args .s))) (omega arith) (start .pre))
+
+add-is-line : tie.Need-add-is-line Inv-loop μ-loop
+add-is-line c =
+    let start = c .before .before .before in
+    omega (arith, part-ends (c .before .loop .k) (start .args .n) (start .args .width) (length (now (start .args .s))) (omega arith) (start .pre))
+
+sub-is-line : tie.Need-sub-is-line Inv-loop μ-loop
+sub-is-line c = search needs
+
+part-is-line-start : tie.Need-part-is-line-start Inv-loop μ-loop
+part-is-line-start c = search needs
+
+part-is-line-end : tie.Need-part-is-line-end Inv-loop μ-loop
+part-is-line-end c =
+    let start = c .before .before .before in
+    omega (arith, part-ends (c .before .loop .k) (start .args .n) (start .args .width) (length (now (start .args .s))) (omega arith) (start .pre))
+
+is-line-requires : tie.Need-is-line-requires Inv-loop μ-loop
+is-line-requires c κs = search needs
+
+add-k : tie.Need-add-k Inv-loop μ-loop
+add-k c = search needs
+
+loop-less : tie.Need-loop-less Inv-loop μ-loop
+loop-less c = search needs
+
+loop-again : tie.Need-loop-again Inv-loop μ-loop
+unfolding areLines
+loop-again c =
+    let at-loop = c .before .before .before in
+    let s = now (at-loop .before .before .args .s) in
+    let w = at-loop .before .before .args .width in
+    (omega arith, cc (every-one (λ k. isLine (part s (k * w) (k * w + w))) (at-loop .loop .k)))
+
+returns : tie.Need-returns Inv-loop μ-loop
+returns c = let past : c .before .loop .k ≡ c .before .before .before .args .n = omega arith in rw past at (c .before .loop .inv .1)
+
+pub are-lines-spec : {M : Type 1} → statement M
+are-lines-spec =
+    tie.close
+    (tie.spec
+    Inv-loop
+    μ-loop
+    loop-holds
+    mul-at
+    add-is-line
+    sub-is-line
+    part-is-line-start
+    part-is-line-end
+    is-line-requires
+    add-k
+    loop-less
+    loop-again
+    returns)

@@ -1,0 +1,105 @@
+// The fields of a tested text. Each byte gives some digit, so that nothing here depends on the test.
+use crate::CaseHead;
+use crate::layout::CELL_AREA;
+use crate::layout::COLUMNS;
+use crate::layout::CONTROLLED;
+use crate::layout::COUNT_DIGITS;
+use crate::layout::COUNT_LINE;
+use crate::layout::COUNT_WIDTH;
+use crate::layout::COUNTS;
+use crate::layout::DIMENSION;
+use crate::layout::HEAD_DIGITS;
+use crate::layout::MARK_DIGITS;
+use crate::layout::MARK_LINE;
+use crate::layout::MARKS;
+use crate::layout::MASS;
+use crate::layout::ROWS;
+use crate::layout::SPEED;
+use crate::layout::WORD;
+use hex::number_of_eight;
+use hex::number_of_four;
+use hex::number_of_sixteen;
+use hex::number_of_two;
+use hex::number_of_word;
+use hex::word;
+ghost use mathlib.Core.Path.{_≡_};
+ghost use Prim.Native.Nat.{_+_, _*_};
+ghost use lib.ListN.{length, getD};
+ghost use Rattle.arithmetic.specs.Lists.{tabulate, part};
+ghost use Rattle.hex.specs.Words.{wordOf, numberOfWord};
+ghost use Rattle.case_text.specs.Layout.{columns, cells, rows, countWidth, countDigits, textLength};
+ghost use Rattle.case_text.specs.Text.{headOf, marksOf, rowOf, countsOf};
+
+pub fn head_of(text: &[u8]) -> CaseHead
+    requires { ⌜ length (now text) ≡ textLength ⌝ }
+    ensures { λ r. ⌜ r ≡ headOf (now (text .entry)) ⌝ }
+{
+    CaseHead {
+        dimension: number_of_eight(&text[DIMENSION..MASS]),
+        mass: number_of_eight(&text[MASS..SPEED]),
+        speed: number_of_eight(&text[SPEED..CELL_AREA]),
+        cell_area: number_of_eight(&text[CELL_AREA..CONTROLLED]),
+        controlled: number_of_two(&text[CONTROLLED..WORD]),
+        word: number_of_four(&text[WORD..HEAD_DIGITS]),
+    }
+}
+
+pub fn fill_marks(text: &[u8], marks: &mut [u64])
+    requires { ⌜ (length (now text) ≡ textLength) × (length (now marks) ≡ rows) ⌝ }
+    ensures { λ _. ⌜ now (marks .exit) ≡ marksOf (now (text .entry)) ⌝ }
+{
+    let mut k = 0;
+    while k < ROWS {
+        let at = MARKS + MARK_LINE * k;
+        marks[k] = number_of_sixteen(&text[at..at + MARK_DIGITS]);
+        k += 1;
+    }
+}
+
+// Each eight bytes of a line as one number: a copy.
+fn words_of(line: &[u8], words: &mut [u64])
+    requires { ⌜ (length (now line) ≡ countDigits) × (length (now words) ≡ columns) ⌝ }
+    ensures { λ _. ⌜ now (words .exit) ≡ tabulate (λ k. wordOf (part (now (line .entry)) (countWidth * k) (countWidth * k + countWidth))) columns ⌝ }
+{
+    let mut k = 0;
+    while k < COLUMNS {
+        let at = COUNT_WIDTH * k;
+        words[k] = word(&line[at..at + COUNT_WIDTH]);
+        k += 1;
+    }
+}
+
+// The number of each word: vectorised, unlike a loop that also makes the words.
+fn fill_words(words: &[u64], row: &mut [u32])
+    requires { ⌜ (length (now words) ≡ columns) × (length (now row) ≡ columns) ⌝ }
+    ensures { λ _. ⌜ now (row .exit) ≡ tabulate (λ k. numberOfWord (getD (now (words .entry)) k 0)) columns ⌝ }
+{
+    let mut k = 0;
+    while k < COLUMNS {
+        row[k] = number_of_word(words[k]);
+        k += 1;
+    }
+}
+
+// The counts of one line.
+fn fill_row(line: &[u8], row: &mut [u32])
+    requires { ⌜ (length (now line) ≡ countDigits) × (length (now row) ≡ columns) ⌝ }
+    ensures { λ _. ⌜ now (row .exit) ≡ rowOf (now (line .entry)) ⌝ }
+{
+    let mut words = [0u64; COLUMNS];
+    words_of(line, &mut words);
+    fill_words(&words, row);
+}
+
+pub fn fill_counts(text: &[u8], counts: &mut [u32])
+    requires { ⌜ (length (now text) ≡ textLength) × (length (now counts) ≡ cells) ⌝ }
+    ensures { λ _. ⌜ now (counts .exit) ≡ countsOf (now (text .entry)) ⌝ }
+{
+    let mut r = 0;
+    while r < ROWS {
+        let at = COUNTS + COUNT_LINE * r;
+        let to = COLUMNS * r;
+        fill_row(&text[at..at + COUNT_DIGITS], &mut counts[to..to + COLUMNS]);
+        r += 1;
+    }
+}

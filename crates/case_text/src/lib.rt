@@ -1,0 +1,69 @@
+// The reading of a case text.
+mod fill;
+mod layout;
+mod tests;
+
+use fill::fill_counts;
+use fill::fill_marks;
+use fill::head_of;
+use tests::reading_refusal;
+ghost use mathlib.Core.Path.{_≡_};
+ghost use Rattle.case_text.specs.Text.{noHead, ReadingPromise};
+
+// How long a text is, and how many counts and footprint rows it has.
+pub const TEXT_LENGTH: usize = layout::TEXT;
+
+pub const COUNTS_LENGTH: usize = layout::CELLS;
+
+pub const MARKS_LENGTH: usize = layout::ROWS;
+
+// Line 1 of a case text.
+#[repr(C)]
+pub struct CaseHead {
+    pub dimension: u32,
+    pub mass: u32,
+    pub speed: u32,
+    pub cell_area: u32,
+    pub controlled: u8,
+    pub word: u16,
+}
+
+// What a reading answers: the refusal number, 0 where there is none, and line 1, all zeros where it is refused.
+#[repr(C)]
+pub struct Reading {
+    pub refusal: u8,
+    pub fields: CaseHead,
+}
+
+// Line 1 of a refused reading.
+fn no_head() -> CaseHead
+    ensures { λ r. ⌜ r ≡ noHead ⌝ }
+{
+    CaseHead {
+        dimension: 0,
+        mass: 0,
+        speed: 0,
+        cell_area: 0,
+        controlled: 0,
+        word: 0,
+    }
+}
+
+// Reads a case text into the lent buffers. All bytes are tested before any is stored.
+pub fn read_case(text: &[u8], counts: &mut [u32], marks: &mut [u64]) -> Reading
+    ensures { λ r. ⌜ ReadingPromise (now (text .entry)) (now (counts .entry)) (now (marks .entry)) r (now (counts .exit)) (now (marks .exit)) ⌝ }
+{
+    let refusal = reading_refusal(text, counts.len(), marks.len());
+    if refusal != 0 {
+        return Reading {
+            refusal: refusal,
+            fields: no_head(),
+        };
+    }
+    fill_counts(text, counts);
+    fill_marks(text, marks);
+    Reading {
+        refusal: 0,
+        fields: head_of(text),
+    }
+}

@@ -1,0 +1,193 @@
+-- The promises of specs/Promises.antt hold.
+use mathlib.Core.Path.{_≡_, refl, sym, ap, _∙_}
+use mathlib.Core.Logic.{_⊎_, inl, inr}
+use mathlib.Core.Bool.{Bool, true, false, cond}
+use mathlib.Core.List.{List}
+use Prim.Native.Nat.{ℕ, zero, suc, _+_, _*_, _^_, _≤_, _<_}
+use native.Mathlib.Nat.{le-of-eq, le-trans, le-of-suc-le-suc, mul-le-mul, one-mul}
+use native.Mathlib.Numerals.{add-one}
+use native.Mathlib.Omega.{arith}
+use borrow.Author.Tests.{eq-eqb, ne-eqb, eqb-true, eqb-false}
+use lib.Count.{ones}
+use lib.Dec.{eqb}
+use lib.ListN.{getD}
+use Rattle.arithmetic.specs.SumsAndMaxima.{sumBelow, maxBelow, firstMaxBelow}
+use Rattle.arithmetic.proofs.TestLaws.{not-refused, inside}
+use Rattle.arithmetic.proofs.SumLaws.{sum-same, sum-le, sum-mono, max-mono, le-max, first-lt, first-at, first-before, sum-rows}
+use Rattle.footprint.specs.Map.{mapCells, mapRows, rowCells, largestCount, leastArea, largestArea, countAt, bitAt, markAt, keyAt, tableRow, cellsIn, wrongLength, wrongArea, wrongCount, noMark, footprintRefusal, refusedFootprint, foundFootprint, footprintOf}
+use Rattle.footprint.specs.Promises.{Refusal, Accepted, Ranges, Worst, SetBits, FootprintPromise, Monotone}
+use Rattle.footprint.specs.declared.Footprint.{Footprint}
+use Rattle.footprint.proofs.CellLaws.{mark-lt, marked-le, ones-of-row, no-key, row-mono, row-ge, row-le, rowOfKey, row-of-largest}
+use Rattle.footprint.proofs.WalkLaws.{counts-small, mark-here}
+use Rattle.footprint.proofs.AnswerLaws.{lengths}
+
+-- ---- refusals
+
+ladder : (a b c d : Bool) {r : ℕ} → r ≡ cond a 5 (cond b 6 (cond c 7 (cond d 8 0)))
+    → (r ≡ 0) ⊎ (r ≡ 5) ⊎ (r ≡ 6) ⊎ (r ≡ 7) ⊎ (r ≡ 8)
+ladder true b c d e = inr (inl e)
+ladder false true c d e = inr (inr (inl e))
+ladder false false true d e = inr (inr (inr (inl e)))
+ladder false false false true e = inr (inr (inr (inr e)))
+ladder false false false false e = inl e
+
+module _ (counts marks : List ℕ) (area : ℕ) where
+  answer-refusal : footprintOf counts marks area .refusal ≡ footprintRefusal counts marks area
+  unfolding footprintOf
+  answer-refusal = by-test (eqb (footprintRefusal counts marks area) 0) refl
+    where
+      by-test : (t : Bool) → eqb (footprintRefusal counts marks area) 0 ≡ t
+          → (cond t (foundFootprint counts marks area) (refusedFootprint (footprintRefusal counts marks area))) .refusal ≡ footprintRefusal counts marks area
+      by-test true e = sym (eqb-true (footprintRefusal counts marks area) 0 e)
+      by-test false e = refl
+
+  answer-found : footprintRefusal counts marks area ≡ 0 → footprintOf counts marks area ≡ foundFootprint counts marks area
+  unfolding footprintOf
+  answer-found z = simp (eq-eqb (footprintRefusal counts marks area) 0 z)
+
+  answer-zeros : (footprintRefusal counts marks area ≡ 0 → ⊥) → footprintOf counts marks area ≡ refusedFootprint (footprintRefusal counts marks area)
+  unfolding footprintOf
+  answer-zeros z = simp (ne-eqb (footprintRefusal counts marks area) 0 z)
+
+  refusal-is : footprintOf counts marks area .refusal
+      ≡ cond (wrongLength counts marks) 5 (cond (wrongArea area) 6 (cond (wrongCount counts) 7 (cond (noMark marks) 8 0)))
+  unfolding footprintRefusal
+  refusal-is = answer-refusal
+
+  pub refusal : Refusal counts marks area
+  refusal = record {
+    listed = ladder (wrongLength counts marks) (wrongArea area) (wrongCount counts) (noMark marks) refusal-is;
+    zeros = λ h. answer-zeros (λ z. h (answer-refusal ∙ z)) ∙ ap refusedFootprint (sym answer-refusal);
+  }
+
+-- ---- an input that isn't refused
+
+module _ (counts marks : List ℕ) (area : ℕ) (ok : footprintOf counts marks area .refusal ≡ 0) where
+  record Tests : Type 0 where
+    lengths-in : wrongLength counts marks ≡ false
+    area-in : wrongArea area ≡ false
+    counts-in : wrongCount counts ≡ false
+    marks-in : noMark marks ≡ false
+
+  tests : Tests
+  tests =
+      let c : ℕ = cond (noMark marks) 8 0 in
+      let b : ℕ = cond (wrongCount counts) 7 c in
+      let a : ℕ = cond (wrongArea area) 6 b in
+      let h5 = not-refused (wrongLength counts marks) 4 a (sym (refusal-is counts marks area) ∙ ok) in
+      let h6 = not-refused (wrongArea area) 5 b (h5 .1) in
+      let h7 = not-refused (wrongCount counts) 6 c (h6 .1) in
+      let h8 = not-refused (noMark marks) 7 0 (h7 .1) in
+      record { lengths-in = h5 .0; area-in = h6 .0; counts-in = h7 .0; marks-in = h8 .0 }
+
+  found-is : footprintOf counts marks area ≡ foundFootprint counts marks area
+  found-is = answer-found counts marks area (sym (answer-refusal counts marks area) ∙ ok)
+
+  pub accepted : Accepted counts marks area
+  accepted =
+      let l = lengths counts marks (tests .lengths-in) in
+      let a = inside leastArea largestArea area (tests .area-in) in
+      record {
+        counts-length = l .0;
+        marks-length = l .1;
+        area-ge = a .0;
+        area-le = a .1;
+        counts-le = counts-small counts (tests .counts-in);
+        answer = found-is;
+      }
+
+  -- ---- the worst cell
+
+  some-cells : 1 ≤ cellsIn marks
+  some-cells = omega (arith, eqb-false (cellsIn marks) 0 (tests .marks-in))
+
+  abbrev worst : ℕ
+  worst = firstMaxBelow (keyAt counts marks) mapCells
+
+  some-key : 0 < maxBelow (keyAt counts marks) mapCells
+  some-key = by-cases (maxBelow (keyAt counts marks) mapCells) refl
+    where
+      by-cases : (n : ℕ) → maxBelow (keyAt counts marks) mapCells ≡ n → 0 < maxBelow (keyAt counts marks) mapCells
+      by-cases zero e = let wrong : ⊥ = omega (arith, some-cells, no-key (markAt marks) (countAt counts) mapCells e) in absurd wrong
+      by-cases (suc n) e = omega arith
+
+  worst-marked : markAt marks worst ≡ 1
+  worst-marked =
+      is-one (markAt marks worst) (countAt counts worst) (mark-lt marks worst)
+      (le-trans some-key (le-of-eq (sym (first-at (keyAt counts marks) mapCells some-key))))
+    where
+      is-one : (m x : ℕ) → m < 2 → 0 < m * (x + 1) → m ≡ 1
+      is-one zero x h l = let wrong : ⊥ = omega arith in absurd wrong
+      is-one (suc m) x h l = omega arith
+
+  marked-key : (p : ℕ) → markAt marks p ≡ 1 → keyAt counts marks p ≡ countAt counts p + 1
+  marked-key p e = ap (λ (m : ℕ). m * (countAt counts p + 1)) e ∙ one-mul (countAt counts p + 1)
+
+  worst-key : maxBelow (keyAt counts marks) mapCells ≡ countAt counts worst + 1
+  worst-key = sym (first-at (keyAt counts marks) mapCells some-key) ∙ marked-key worst worst-marked
+
+  pub worst-cell : Worst counts marks area
+  worst-cell =
+      let place : footprintOf counts marks area .place ≡ worst = ap (λ (f : Footprint). f .place) found-is in
+      record {
+        marked = ap (markAt marks) place ∙ worst-marked;
+        largest = λ p l e. rw place (omega (arith, le-max (keyAt counts marks) mapCells p l, marked-key p e, worst-key));
+        first = λ p l e. rw place
+            (omega (arith, first-before (keyAt counts marks) mapCells p (rw place at l), marked-key p e, worst-key));
+        row = ap (λ (f : Footprint). f .row) found-is
+            ∙ row-of-largest area (markAt marks) (countAt counts) (mark-lt marks) mapCells
+            ∙ ap (rowOfKey area) (worst-key ∙ add-one (countAt counts worst))
+            ∙ sym (ap (λ (p : ℕ). tableRow (countAt counts p) area) place);
+      }
+
+  -- ---- ranges
+
+  pub ranges : Ranges counts marks area
+  ranges =
+      let place : footprintOf counts marks area .place ≡ worst = ap (λ (f : Footprint). f .place) found-is in
+      let people = ap (λ (f : Footprint). f .people) found-is in
+      let cells = ap (λ (f : Footprint). f .cells) found-is in
+      record {
+        row-ge = rw (worst-cell .row) (row-ge area _);
+        row-le = rw (worst-cell .row) (row-le area _);
+        place-lt = rw place (first-lt (keyAt counts marks) mapCells (omega arith));
+        people-le = rw people (sum-le (λ p. markAt marks p * countAt counts p) largestCount mapCells
+            (λ p l. le-trans (marked-le (markAt marks p) (countAt counts p) (mark-lt marks p)) (counts-small counts (tests .counts-in) p l)));
+        cells-ge = rw cells some-cells;
+        cells-le = rw cells (omega (arith, sum-le (markAt marks) 1 mapCells (λ p l. le-of-suc-le-suc (mark-lt marks p))));
+      }
+
+  -- ---- set bits
+
+  pub set-bits : ((r : ℕ) → r < mapRows → getD marks r 0 < 2 ^ 64) → SetBits counts marks area
+  set-bits small =
+      ap (λ (f : Footprint). f .cells) found-is
+      ∙ sym (sum-rows (markAt marks) rowCells mapRows)
+      ∙ sum-same (λ r. sumBelow (λ c. markAt marks (rowCells * r + c)) rowCells) (λ r. ones (getD marks r 0)) mapRows
+      (λ r l. sym (sum-same (bitAt (getD marks r 0)) (λ c. markAt marks (rowCells * r + c)) rowCells (mark-here counts marks r))
+      ∙ sym (ones-of-row (getD marks r 0) (small r l)))
+
+pub footprint-promise : (counts marks : List ℕ) (area : ℕ) → FootprintPromise counts marks area
+footprint-promise counts marks area = record {
+  refusal = refusal counts marks area;
+  accepted = accepted counts marks area;
+  ranges = ranges counts marks area;
+  worst = worst-cell counts marks area;
+  set-bits = set-bits counts marks area;
+}
+
+-- ---- two inputs
+
+pub monotone : Monotone
+monotone counts marks counts′ marks′ area ok ok′ n =
+    let a = found-is counts marks area ok in
+    let a′ = found-is counts′ marks′ area ok′ in
+    record {
+      row-le = rw (a, a′)
+          (max-mono (λ p. markAt marks p * tableRow (countAt counts p) area) (λ p. markAt marks′ p * tableRow (countAt counts′ p) area) mapCells
+          (λ p l. mul-le-mul (n .marks-le p l) (row-mono area (countAt counts p) (countAt counts′ p) (n .counts-le p l))));
+      people-le = rw (a, a′)
+          (sum-mono (λ p. markAt marks p * countAt counts p) (λ p. markAt marks′ p * countAt counts′ p) mapCells
+          (λ p l. mul-le-mul (n .marks-le p l) (n .counts-le p l)));
+      cells-le = rw (a, a′) (sum-mono (markAt marks) (markAt marks′) mapCells (n .marks-le));
+    }

@@ -1,0 +1,46 @@
+-- The printed frame of document 01.
+use Prim.Native.Nat.{ℕ}
+use mathlib.Core.Bool.{cond}
+use mathlib.Core.List.{List, [], _∷_, _++_}
+use lib.Dec.{eqb, ltb}
+use lib.IntN.{ℤ, pos, negsuc}
+use lib.ListN.{length}
+use Rattle.arithmetic.specs.Lists.{stored}
+use Rattle.hex.specs.Digits.{written, lineEnd}
+use Rattle.frame.specs.Layout.{refusalWidth, areaWidth, columnWidth, flagWidth, rowWidth, placeWidth, peopleWidth, classWidth, frameLength}
+use Rattle.frame.specs.declared.FrameFields.{FrameFields}
+
+-- a final class as a byte: "−1 is ff", and it is the only negative one
+abbrev pub classByte : ℤ → ℕ
+classByte (pos n) = n
+classByte (negsuc n) = 255
+
+-- the fields in their order, each a width and a value: "00; low 8; high 8; column 2; flag 2; table row used 2; place 4;
+-- people 8; intrinsic class 2; final class 2"
+abbrev pub frameFields : FrameFields → List (ℕ × ℕ)
+frameFields f =
+    (refusalWidth, 0) ∷ (areaWidth, f .low) ∷ (areaWidth, f .high) ∷ (columnWidth, f .column) ∷ (flagWidth, f .flag) ∷ (rowWidth, f .row)
+    ∷ (placeWidth, f .place) ∷ (peopleWidth, f .people) ∷ (classWidth, f .intrinsic) ∷ (classWidth, classByte (f .«final_class»)) ∷ []
+
+-- "40 digits and a line end"
+unfoldable pub frameLine : FrameFields → List ℕ
+frameLine f = written (frameFields f) ++ lineEnd
+
+-- "A refused case gives its number as two digits and a line end instead."
+abbrev pub refusalFields : ℕ → List (ℕ × ℕ)
+refusalFields n = (refusalWidth, n) ∷ []
+
+unfoldable pub refusalLine : ℕ → List ℕ
+refusalLine n = written (refusalFields n) ++ lineEnd
+
+-- what is printed of a case with this refusal number, 0 where there is none
+unfoldable pub printed : ℕ → FrameFields → List ℕ
+printed refusal f = cond (eqb refusal 0) (frameLine f) (refusalLine refusal)
+
+-- "15 a buffer shorter than 41 bytes, for refused cases too; nothing written"; 0 where it is long enough
+unfoldable pub writingRefusal : ℕ → ℕ
+writingRefusal length = cond (ltb length frameLength) 15 0
+
+-- the buffer with what is printed at its start; "bytes after the last one written keep their content"
+unfoldable pub framed : ℕ → FrameFields → List ℕ → List ℕ
+framed refusal f buffer = cond (ltb (length buffer) frameLength) buffer (stored 0 (printed refusal f) buffer)

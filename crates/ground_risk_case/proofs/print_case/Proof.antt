@@ -1,0 +1,85 @@
+-- `print_case` answers and leaves what the definitions say.
+use Rattle.ground_risk_case.proofs.WaysOut.{refused-15, ended-by-reading, not-ended}
+use borrow.Author.Needs.{needs}
+use Rattle.ground_risk_case.proofs.print_case.Statement.{statement}
+use Rattle.ground_risk_case.proofs.print_case.Tie as tie
+
+returns : tie.Need-returns
+returns c = refused-15 _ _ _ _ (c .if1 .taken)
+
+read-case-requires : tie.Need-read-case-requires
+read-case-requires c κs = search needs
+
+refused-with-requires : tie.Need-refused-with-requires
+refused-with-requires c κs = search needs
+
+fields-of-requires : tie.Need-fields-of-requires
+fields-of-requires c κs = search needs
+
+write-frame-requires : tie.Need-write-frame-requires
+write-frame-requires c κs = search needs
+
+same-length : tie.Need-same-length
+same-length c = search needs
+
+same-length-2 : tie.Need-same-length-2
+same-length-2 c = search needs
+
+same-length-3 : tie.Need-same-length-3
+same-length-3 c = search needs
+
+returns-2 : tie.Need-returns-2
+returns-2 c =
+    let write = c .before .before
+    in let fields = write .before .before
+    in let then = fields .before .before
+    in let read = then .before .before .before .before .before .before
+    in ended-by-reading _ _ _ _ (read .before .before .before .if1 .left) (read .read-case .ensures) (then .if2 .taken) (fields .before .refused-with .ensures) (fields .fields-of .ensures) (write .write-frame .ensures .1)
+
+assess-requires : tie.Need-assess-requires
+assess-requires c κs = search needs
+
+fields-of-requires-2 : tie.Need-fields-of-requires-2
+fields-of-requires-2 c κs = search needs
+
+write-frame-requires-2 : tie.Need-write-frame-requires-2
+write-frame-requires-2 c κs = search needs
+
+same-length-4 : tie.Need-same-length-4
+same-length-4 c = search needs
+
+same-length-5 : tie.Need-same-length-5
+same-length-5 c = search needs
+
+same-length-6 : tie.Need-same-length-6
+same-length-6 c = search needs
+
+returns-3 : tie.Need-returns-3
+returns-3 c =
+    let write = c .before .before
+    in let fields = write .before .before
+    in let assessed = fields .before
+    in let otherwise = assessed .before .before .before .before
+    in let read = otherwise .before .before .before .before .before .before
+    in not-ended _ _ _ _ (read .before .before .before .if1 .left) (read .read-case .ensures) (otherwise .if2 .left) (assessed .assess .ensures) (fields .fields-of2 .ensures) (write .write-frame2 .ensures .1)
+
+pub print-case-spec : {M : Type 1} → statement M
+print-case-spec =
+    tie.close
+    (tie.spec
+    returns
+    read-case-requires
+    refused-with-requires
+    fields-of-requires
+    write-frame-requires
+    same-length
+    same-length-2
+    same-length-3
+    returns-2
+    assess-requires
+    fields-of-requires-2
+    write-frame-requires-2
+    same-length-4
+    same-length-5
+    same-length-6
+    returns-3)

@@ -1,0 +1,59 @@
+// The whole case, from its text to the printed frame.
+ghost use mathlib.Core.Path.{_≡_};
+ghost use Rattle.assessment.specs.Assessment.{refusedAssessment};
+ghost use Rattle.ground_risk_case.specs.Case.{fieldsOf, CasePromise};
+use assessment::Assessment;
+use assessment::assess;
+use case_text::read_case;
+use frame::FRAME_LENGTH;
+use frame::FrameFields;
+use frame::write_frame;
+
+// The printed fields of an assessment.
+fn fields_of(a: Assessment) -> FrameFields
+    ensures { λ r. ⌜ r ≡ fieldsOf a ⌝ }
+{
+    let sheet = a.sheet;
+    let area = sheet.area;
+    let footprint = a.footprint;
+    FrameFields {
+        low: area.low,
+        high: area.high,
+        column: sheet.column,
+        flag: sheet.flag,
+        row: a.row_used,
+        place: footprint.place,
+        people: footprint.people,
+        intrinsic: a.intrinsic,
+        final_class: a.final_class,
+    }
+}
+
+// Reads the text into the lent count and footprint buffers, and prints the case into the lent frame buffer. The answer is the refusal
+// number, 0 where there is none; 15 where the frame buffer is too short, and then nothing is read or written.
+pub fn print_case(text: &[u8], counts: &mut [u32], marks: &mut [u64], frame: &mut [u8]) -> u8
+    ensures { λ r. ⌜ CasePromise (now (text .entry)) (now (counts .entry)) (now (marks .entry)) (now (frame .entry)) r (now (counts .exit)) (now (marks .exit)) (now (frame .exit)) ⌝ }
+{
+    if frame.len() < FRAME_LENGTH {
+        return 15;
+    }
+    let reading = read_case(text, counts, marks);
+    if reading.refusal != 0 {
+        let nothing = assessment::refused_with(reading.refusal);
+        write_frame(reading.refusal, fields_of(nothing), frame);
+        return reading.refusal;
+    }
+    let head = reading.fields;
+    let a = assess(
+        head.dimension,
+        head.mass,
+        head.speed,
+        counts,
+        marks,
+        head.cell_area,
+        head.controlled,
+        head.word,
+    );
+    write_frame(a.refusal, fields_of(a), frame);
+    a.refusal
+}

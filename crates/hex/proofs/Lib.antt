@@ -1,0 +1,5 @@
+pub mod DigitLaws
+pub mod LaneLaws
+pub mod WordLaws
+pub mod LineLaws
+pub mod FieldLaws

@@ -1,0 +1,10 @@
+-- The cases P12 to P15.
+use mathlib.Core.Path.{refl}
+use Rattle.arithmetic.specs.Tests.{anyBelow}
+use Rattle.risk_class.specs.ClassTable.{classAt}
+use Rattle.risk_class.specs.Mitigation.{creditAt, mitigationRefusal, finalClassOf}
+use Rattle.risk_class.specs.Points.{FinalPointsHold}
+
+pub final-points : FinalPointsHold
+unfolding finalClassOf mitigationRefusal creditAt classAt anyBelow
+final-points = refl
