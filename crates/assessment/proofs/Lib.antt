@@ -1,1 +1,4 @@
 pub mod WaysOut
+pub mod GivenOrZero
+pub mod LowerColumn
+pub mod Demand3Holds
