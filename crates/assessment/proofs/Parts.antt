@@ -5,6 +5,7 @@ use mathlib.Core.List.{List}
 use Prim.Native.Nat.{ℕ}
 use borrow.Author.Tests.{eqb-true, eq-eqb}
 use lib.Dec.{eqb}
+use Rattle.arithmetic.proofs.TestLaws.{went-on}
 use Rattle.sheet.specs.declared.SheetAnswer.{SheetAnswer}
 use Rattle.sheet.specs.Sheet.{sheetOf}
 use Rattle.footprint.specs.declared.Footprint.{Footprint}
@@ -15,14 +16,6 @@ use Rattle.assessment.specs.declared.Assessment.{Assessment}
 use Rattle.assessment.specs.Working.{Working, wholeWorking, endedBefore, endedAfter, afterClass, afterFootprint, workingOn, workingAt}
 use Rattle.assessment.specs.Assessment.{refusedAssessment, assessedBy, assessmentOf, AssessmentParts}
 use Rattle.assessment.proofs.WaysOut.{not-refused}
-
--- a step whose answer isn't refused was not refused itself
-went-on : {A : Type 0} (refusal : A → ℕ) (n : ℕ) (x y : A) → refusal y ≡ n → refusal (cond (eqb n 0) x y) ≡ 0 → n ≡ 0
-went-on refusal n x y e = by-test (eqb n 0) refl
-  where
-    by-test : (t : Bool) → eqb n 0 ≡ t → refusal (cond t x y) ≡ 0 → n ≡ 0
-    by-test true q h = eqb-true n 0 q
-    by-test false q h = sym e ∙ h
 
 module _ (w m v : ℕ) (counts marks : List ℕ) (area controlled word : ℕ) (none : assessmentOf w m v counts marks area controlled word .refusal ≡ 0) where
   abbrev column : ℕ
