@@ -4,3 +4,4 @@ pub mod FractionLaws
 pub mod SumLaws
 pub mod ListLaws
 pub mod PartLaws
+pub mod EachLaws

@@ -42,6 +42,12 @@ up-more a b h e =
     le-antisymm (up-le (a / b + 1) a b h (omega (arith, down-high a b h)))
     (omega (arith, lt-of-mul-lt-mul-right b {m = a / b} {n = divUp a b} (omega (arith, up-high a b h, div-add-mod' a b))))
 
+-- one more, rounded up, is one more than the quotient
+pub up-next : (a b : ℕ) → 0 < b → divUp (a + 1) b ≡ a / b + 1
+up-next a b h =
+    le-antisymm (up-le (a / b + 1) (a + 1) b h (omega (arith, down-high a b h)))
+    (omega (arith, lt-of-mul-lt-mul-right b {m = a / b} {n = divUp (a + 1) b} (omega (arith, up-high (a + 1) b h, down-low a b))))
+
 pub down-mono : (a c b : ℕ) → 0 < b → a ≤ c → a / b ≤ c / b
 down-mono a c b h k = le-down (a / b) c b h (le-trans (down-low a b) k)
 

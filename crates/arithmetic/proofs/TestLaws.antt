@@ -6,8 +6,8 @@ use Prim.Native.Nat.{ℕ, zero, suc, _+_, _≤_, _<_}
 use native.Mathlib.Nat.{not-suc-le-zero, eq-or-lt-of-le, le-of-suc-le-suc}
 use native.Mathlib.Numerals.{add-one}
 use native.Mathlib.Omega.{arith}
-use borrow.Author.Tests.{le-ltb, ltb-true, ltb-false}
-use lib.Dec.{ltb}
+use borrow.Author.Tests.{le-ltb, ltb-true, ltb-false, eqb-true}
+use lib.Dec.{ltb, eqb}
 use Rattle.arithmetic.specs.Tests.{outside, anyBelow}
 
 pub lt-or-le : (a b : ℕ) → (a < b) ⊎ (b ≤ a)
@@ -40,6 +40,14 @@ le-cond false h l = l
 pub not-refused : (t : Bool) (n rest : ℕ) → cond t (suc n) rest ≡ 0 → (t ≡ false) × (rest ≡ 0)
 not-refused true n rest e = let h : ⊥ = omega arith in absurd h
 not-refused false n rest e = (refl, e)
+
+-- an answer that goes on where n is 0: if it isn't refused, n is 0
+pub went-on : {A : Type 0} (refusal : A → ℕ) (n : ℕ) (x y : A) → refusal y ≡ n → refusal (cond (eqb n 0) x y) ≡ 0 → n ≡ 0
+went-on refusal n x y e = by-test (eqb n 0) refl
+  where
+    by-test : (t : Bool) → eqb n 0 ≡ t → refusal (cond t x y) ≡ 0 → n ≡ 0
+    by-test true q h = eqb-true n 0 q
+    by-test false q h = sym e ∙ h
 
 -- a number in its range
 pub inside : (low high n : ℕ) → outside low high n ≡ false → (low ≤ n) × (n ≤ high)

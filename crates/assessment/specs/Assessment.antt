@@ -9,8 +9,9 @@ use Rattle.sheet.specs.declared.Sheet.{Sheet}
 use Rattle.sheet.specs.Sheet.{zeroSheet, sheetOf}
 use Rattle.footprint.specs.declared.Footprint.{Footprint}
 use Rattle.footprint.specs.Map.{refusedFootprint, footprintOf}
-use Rattle.risk_class.specs.ClassTable.{usedRow}
-use Rattle.assessment.specs.Working.{Given, given, notGiven, Working, workingOn}
+use Rattle.risk_class.specs.ClassTable.{usedRow, intrinsicClassOf}
+use Rattle.risk_class.specs.Mitigation.{finalClassOf}
+use Rattle.assessment.specs.Working.{Given, given, notGiven, Working, wholeWorking, workingOn, workingAt}
 use Rattle.assessment.specs.declared.Assessment.{Assessment}
 
 -- after a refusal every number is zero
@@ -50,3 +51,16 @@ assessmentOf w m v counts marks area controlled word =
 pub record AssessmentIsGivenOrZero (a : Assessment) : Type 0 where
   pub listed : a .refusal ≤ 12
   pub zero : (a .refusal ≡ 0 → ⊥) → a ≡ refusedAssessment (a .refusal)
+
+-- an assessment that isn't refused has every part given, and shows them
+pub record AssessmentParts (w m v : ℕ) (counts marks : List ℕ) (area controlled word : ℕ) (a : Assessment) : Type 0 where
+  pub sheet-given : sheetOf w m v .refusal ≡ 0
+  pub footprint-given : footprintOf counts marks area .refusal ≡ 0
+  pub intrinsic-given : intrinsicClassOf (sheetOf w m v .sheet .column) (footprintOf counts marks area .row) controlled .refusal ≡ 0
+  pub final-given : finalClassOf (sheetOf w m v .sheet .column) (a .intrinsic) word .refusal ≡ 0
+  pub sheet : a .sheet ≡ sheetOf w m v .sheet
+  pub footprint : a .footprint ≡ footprintOf counts marks area
+  pub row-used : a .«row_used» ≡ usedRow (footprintOf counts marks area .row) controlled
+  pub intrinsic : a .intrinsic ≡ intrinsicClassOf (sheetOf w m v .sheet .column) (footprintOf counts marks area .row) controlled .class
+  pub final-class : a .«final_class» ≡ finalClassOf (sheetOf w m v .sheet .column) (a .intrinsic) word .class
+  pub working : workingAt (sheetOf w m v .sheet .column) counts marks area controlled word ≡ wholeWorking (a .intrinsic) (a .«final_class»)

@@ -11,15 +11,16 @@ use lib.Bits.{shifted-even}
 use lib.Dec.{ltb, eqb}
 use lib.ListN.{getD}
 use lib.Pow.{pow-add, shl-shr, pow-pos}
+use Rattle.arithmetic.specs.Each.{Each}
 use Rattle.arithmetic.proofs.TestLaws.{lt-or-le, none-any}
 use Rattle.arithmetic.proofs.SumLaws.{sum-first, max-first, first-first}
 use Rattle.footprint.specs.Map.{mapCells, largestCount, countAt, bitAt, markAt, keyAt, tableRow, highestRow, firstLargest, peopleIn, cellsIn, wrongLength, wrongCount, noMark}
-use Rattle.footprint.specs.Points.{RowPointsHold, P16Map, P16Footprint}
+use Rattle.footprint.specs.Points.{rowPoints, RowPointHolds, P16Map, P16Footprint}
 use Rattle.footprint.proofs.AnswerLaws as answer
 
-pub row-points : RowPointsHold
+pub row-points-hold : Each RowPointHolds rowPoints
 unfolding tableRow
-row-points = refl
+row-points-hold = (refl, (refl, (refl, (refl, (refl, (refl, tt))))))
 
 -- the other columns of a row with the westernmost cell marked
 other-columns : (c : ℕ) → c < 63 → bitAt (2 ^ 63) (suc c) ≡ 0

@@ -1,6 +1,6 @@
 -- The cases P9 to P11 of document 01, and the footprint of P16.
 use mathlib.Core.Path.{_≡_}
-use mathlib.Core.List.{List, [], _∷_, map}
+use mathlib.Core.List.{List, [], _∷_}
 use Prim.Native.Nat.{ℕ, suc, _^_}
 use lib.ListN.{length, getD}
 use Rattle.footprint.specs.Map.{mapCells, mapRows, countAt, tableRow, footprintOf}
@@ -21,8 +21,8 @@ rowPoints =
     ∷ record { people = 8; area = 10000; row = 5 }
     ∷ []
 
-abbrev pub RowPointsHold : Type 0
-RowPointsHold = map (λ (p : RowPoint). tableRow (p .people) (p .area)) rowPoints ≡ map (λ (p : RowPoint). p .row) rowPoints
+abbrev pub RowPointHolds : RowPoint → Type 0
+RowPointHolds p = tableRow (p .people) (p .area) ≡ p .row
 
 -- P16: "first footprint line 8000000000000000, first count 8, all else zero", the zero cells described by rule
 pub record P16Map (counts marks : List ℕ) : Type 0 where

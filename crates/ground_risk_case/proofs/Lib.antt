@@ -1,1 +1,3 @@
 pub mod WaysOut
+pub mod EndToEndHolds
+pub mod PointsHold

@@ -1,10 +1,11 @@
 -- The cases P12 to P15.
 use mathlib.Core.Path.{refl}
+use Rattle.arithmetic.specs.Each.{Each}
 use Rattle.arithmetic.specs.Tests.{anyBelow}
 use Rattle.risk_class.specs.ClassTable.{classAt}
 use Rattle.risk_class.specs.Mitigation.{creditAt, mitigationRefusal, finalClassOf}
-use Rattle.risk_class.specs.Points.{FinalPointsHold}
+use Rattle.risk_class.specs.Points.{finalPoints, FinalPointHolds}
 
-pub final-points : FinalPointsHold
+pub final-points-hold : Each FinalPointHolds finalPoints
 unfolding finalClassOf mitigationRefusal creditAt classAt anyBelow
-final-points = refl
+final-points-hold = (refl, (refl, (refl, (refl, tt))))

@@ -1,6 +1,6 @@
 -- The cases P12 to P15 of document 01.
 use mathlib.Core.Path.{_≡_}
-use mathlib.Core.List.{List, [], _∷_, map}
+use mathlib.Core.List.{List, [], _∷_}
 use Prim.Native.Nat.{ℕ}
 use lib.IntN.{pos, negsuc}
 use Rattle.risk_class.specs.Mitigation.{refusedFinal, finalClassOf}
@@ -22,6 +22,5 @@ finalPoints =
     ∷ record { column = 5; class = 9; word = 0x0000; final = refusedFinal 12 }
     ∷ []
 
-abbrev pub FinalPointsHold : Type 0
-FinalPointsHold =
-    map (λ (p : FinalPoint). finalClassOf (p .column) (p .class) (p .word)) finalPoints ≡ map (λ (p : FinalPoint). p .final) finalPoints
+abbrev pub FinalPointHolds : FinalPoint → Type 0
+FinalPointHolds p = finalClassOf (p .column) (p .class) (p .word) ≡ p .final

@@ -36,9 +36,9 @@ pub fn saving(mass: u64) -> Bracket
     requires { ⌜ 0 < mass ⌝ }
     ensures { λ r. ⌜ r ≡ savingOf mass ⌝ }
 {
+    // one division for both ends: a number that is one more, rounded up, is one more than the quotient
     let low = 39_415_562_351 / mass;
-    let high = div_up(39_415_562_352, mass);
-    Bracket { low, high }
+    Bracket { low, high: low + 1 }
 }
 
 // The low slide takes the high saving, and the high slide the low one, so that the exact slide lies between.

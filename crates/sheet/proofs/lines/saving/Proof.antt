@@ -1,4 +1,9 @@
--- `saving` gives line 3.
+-- `saving` gives line 3 with one division.
+use mathlib.Core.Path.{_≡_, sym}
+use Prim.Native.Nat.{ℕ, _/_, _≤_}
+use native.Mathlib.Nat.{div-le-self}
+use native.Mathlib.Omega.{arith}
+use Rattle.arithmetic.proofs.RoundingLaws.{up-next}
 use Rattle.sheet.specs.Lines.{savingOf}
 use borrow.Author.Needs.{needs}
 use Rattle.sheet.proofs.lines.saving.Statement.{statement}
@@ -7,12 +12,12 @@ use Rattle.sheet.proofs.lines.saving.Tie as tie
 div-low : tie.Need-div-low
 div-low c = search needs
 
-div-up-requires : tie.Need-div-up-requires
-div-up-requires c κs = search needs
+add-t3 : tie.Need-add-t3
+add-t3 c = omega (arith, div-le-self 39415562351 (c .args .mass))
 
 returns : tie.Need-returns
 unfolding savingOf
-returns c = cc
+returns c = rw (up-next 39415562351 (c .args .mass) (omega arith))
 
 pub saving-spec : {M : Type 1} → statement M
-saving-spec = tie.close (tie.spec div-low div-up-requires returns)
+saving-spec = tie.close (tie.spec div-low add-t3 returns)

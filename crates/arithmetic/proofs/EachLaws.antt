@@ -1,0 +1,11 @@
+-- A claim about each entry of a list that is put together from others.
+use mathlib.Core.List.{List, [], _∷_, _++_, map}
+use Rattle.arithmetic.specs.Each.{Each}
+
+pub each-append : {A : Type 0} (P : A → Type 0) (xs ys : List A) → Each P xs → Each P ys → Each P (xs ++ ys)
+each-append P [] ys h k = k
+each-append P (x ∷ xs) ys h k = (h .0, each-append P xs ys (h .1) k)
+
+pub each-map : {A B : Type 0} (P : B → Type 0) (f : A → B) (xs : List A) → Each (λ x. P (f x)) xs → Each P (map f xs)
+each-map P f [] h = h
+each-map P f (x ∷ xs) h = (h .0, each-map P f xs (h .1))

@@ -1,0 +1,64 @@
+-- Demand 3 at the bytes: what a frame says that was printed with no refusal.
+use mathlib.Core.Path.{_≡_}
+use mathlib.Core.List.{List}
+use Prim.Native.Nat.{ℕ, _≤_}
+use lib.IntN.{ℤ}
+use lib.ListN.{length}
+use lib.Signed.{_≤ℤ_}
+use Rattle.sheet.specs.declared.Sheet.{Sheet}
+use Rattle.sheet.specs.Sheet.{sheetOf}
+use Rattle.exact_area.specs.ExactArea.{exactColumn}
+use Rattle.exact_area.specs.Accuracy.{AreaIsAccurate}
+use Rattle.footprint.specs.declared.Footprint.{Footprint}
+use Rattle.footprint.specs.Map.{footprintOf}
+use Rattle.risk_class.specs.ClassTable.{usedRow}
+use Rattle.assessment.specs.Working.{given, Working, workingAt}
+use Rattle.case_text.specs.Text.{headOf, marksOf, countsOf}
+use Rattle.frame.specs.declared.FrameFields.{FrameFields}
+use Rattle.frame.specs.FrameLaw.{refusalIn, fieldsIn}
+use Rattle.ground_risk_case.specs.Case.{caseAnswer, frameLeft}
+
+-- of the fields that stand in a text: the sheet, the footprint, the exact column, and the working at a column
+abbrev pub sheetIn : List ℕ → Sheet
+sheetIn t = sheetOf (headOf t .dimension) (headOf t .mass) (headOf t .speed) .sheet
+
+abbrev pub footprintIn : List ℕ → Footprint
+footprintIn t = footprintOf (countsOf t) (marksOf t) (headOf t .«cell_area»)
+
+abbrev pub exactColumnIn : List ℕ → ℕ
+exactColumnIn t = exactColumn (headOf t .dimension) (headOf t .mass) (headOf t .speed)
+
+abbrev pub workingIn : List ℕ → ℕ → Working
+workingIn t column = workingAt column (countsOf t) (marksOf t) (headOf t .«cell_area») (headOf t .controlled) (headOf t .word)
+
+-- the classes of a working are those that a frame shows
+pub record ClassesShown (t : List ℕ) (column : ℕ) (shown : FrameFields) : Type 0 where
+  pub intrinsic : workingIn t column .intrinsic ≡ given (shown .intrinsic)
+  pub final-class : workingIn t column .final ≡ given (shown .«final_class»)
+
+-- the classes of a working are given, and neither is higher than the frame shows
+pub record ClassesNotHigher (t : List ℕ) (column : ℕ) (shown : FrameFields) : Type 0 where
+  pub intrinsic : (lower : ℕ) × (workingIn t column .intrinsic ≡ given lower) × (lower ≤ shown .intrinsic)
+  pub final-class : (lower : ℤ) × (workingIn t column .final ≡ given lower) × (lower ≤ℤ shown .«final_class»)
+
+-- a frame printed with no refusal for a text shows the sheet's, the footprint's and the classes' numbers of the fields in the text;
+-- with the flag digits 00 the classes are those of the exact column, with 01 not lower than those
+pub record FrameTells (t : List ℕ) (shown : FrameFields) : Type 0 where
+  pub low : shown .low ≡ sheetIn t .area .low
+  pub high : shown .high ≡ sheetIn t .area .high
+  pub column : shown .column ≡ sheetIn t .column
+  pub flag : shown .flag ≡ sheetIn t .flag
+  pub row-used : shown .row ≡ usedRow (footprintIn t .row) (headOf t .controlled)
+  pub place : shown .place ≡ footprintIn t .place
+  pub people : shown .people ≡ footprintIn t .people
+  pub classes : ClassesShown t (sheetIn t .column) shown
+  pub accuracy : AreaIsAccurate (headOf t .dimension) (headOf t .mass) (headOf t .speed) (sheetIn t)
+  pub flag-zero-or-one : shown .flag ≤ 1
+  pub unflagged : shown .flag ≡ 0 → ClassesShown t (exactColumnIn t) shown
+  pub flagged : shown .flag ≡ 1 → ClassesNotHigher t (exactColumnIn t) shown
+
+-- for every text, every length of the lent map buffers and every frame buffer: where the case answers 0, the frame buffer's bytes tell this
+abbrev pub EndToEnd : Type 0
+EndToEnd =
+    (t : List ℕ) (counts marks : ℕ) (frame : List ℕ) → caseAnswer t counts marks (length frame) ≡ 0 →
+    (refusalIn (frameLeft t counts marks frame) ≡ 0) × FrameTells t (fieldsIn (frameLeft t counts marks frame))

@@ -1,0 +1,72 @@
+-- P1 to P16 of document 01 as one table.
+use mathlib.Core.Path.{_≡_}
+use mathlib.Core.List.{List, [], _∷_, _++_, map}
+use Prim.Native.Nat.{ℕ}
+use lib.IntN.{pos}
+use Rattle.arithmetic.specs.Each.{Each}
+use Rattle.sheet.specs.Points.{SheetPoint, SheetPointHolds, sheetPoints}
+use Rattle.footprint.specs.Points.{RowPoint, RowPointHolds, rowPoints, P16Map}
+use Rattle.risk_class.specs.Points.{FinalPoint, FinalPointHolds, finalPoints}
+use Rattle.case_text.specs.declared.CaseHead.{CaseHead}
+use Rattle.case_text.specs.Text.{headOf, marksOf, countsOf, readingRefusal}
+use Rattle.frame.specs.declared.FrameFields.{FrameFields}
+use Rattle.frame.specs.Frame.{frameLine, printed}
+use Rattle.ground_risk_case.specs.Case.{fieldsOf, outcomeOf}
+
+-- P16's first line, `000003e800002710000009c400002710001000`
+abbrev pub p16Head : CaseHead
+p16Head =
+    record { dimension = 0x3e8; mass = 0x2710; speed = 0x9c4; «cell_area» = 0x2710; controlled = 0x00; word = 0x1000 }
+
+-- a text with that first line, the first footprint line 8000000000000000, the first count 8, "all else zero"
+pub record P16Text (t : List ℕ) : Type 0 where
+  pub read : readingRefusal t 4096 64 ≡ 0
+  pub head : headOf t ≡ p16Head
+  pub map : P16Map (countsOf t) (marksOf t)
+
+-- P16's output, `000000c7ea0000c7eb0100050000000000080504`: its fields and its bytes
+abbrev pub p16Fields : FrameFields
+p16Fields =
+    record {
+      low = 0xc7ea;
+      high = 0xc7eb;
+      column = 0x01;
+      flag = 0x00;
+      row = 0x05;
+      place = 0x0000;
+      people = 0x8;
+      intrinsic = 0x05;
+      «final_class» = pos 0x04;
+    }
+
+abbrev pub p16Line : List ℕ
+p16Line =
+    48 ∷ 48 ∷ 48 ∷ 48 ∷ 48 ∷ 48 ∷ 99 ∷ 55 ∷ 101 ∷ 97
+    ∷ 48 ∷ 48 ∷ 48 ∷ 48 ∷ 99 ∷ 55 ∷ 101 ∷ 98 ∷ 48 ∷ 49
+    ∷ 48 ∷ 48 ∷ 48 ∷ 53 ∷ 48 ∷ 48 ∷ 48 ∷ 48 ∷ 48 ∷ 48
+    ∷ 48 ∷ 48 ∷ 48 ∷ 48 ∷ 48 ∷ 56 ∷ 48 ∷ 53 ∷ 48 ∷ 52
+    ∷ 10 ∷ []
+
+pub record P16Holds : Type 0 where
+  pub refusal : (t : List ℕ) → P16Text t → outcomeOf t 4096 64 .refusal ≡ 0
+  pub fields : (t : List ℕ) → P16Text t → fieldsOf (outcomeOf t 4096 64) ≡ p16Fields
+  pub bytes : (t : List ℕ) → P16Text t → printed (outcomeOf t 4096 64 .refusal) (fieldsOf (outcomeOf t 4096 64)) ≡ p16Line
+
+pub data WorkedPoint : Type 0 where
+  aircraft : SheetPoint → WorkedPoint
+  cell : RowPoint → WorkedPoint
+  mitigation : FinalPoint → WorkedPoint
+  wholeCase : WorkedPoint
+
+abbrev pub WorkedPointHolds : WorkedPoint → Type 0
+WorkedPointHolds (aircraft p) = SheetPointHolds p
+WorkedPointHolds (cell p) = RowPointHolds p
+WorkedPointHolds (mitigation p) = FinalPointHolds p
+WorkedPointHolds wholeCase = P16Holds
+
+-- P1 to P8, P9 to P11 (two cells each), P12 to P15, P16
+abbrev pub workedPoints : List WorkedPoint
+workedPoints = map aircraft sheetPoints ++ (map cell rowPoints ++ (map mitigation finalPoints ++ (wholeCase ∷ [])))
+
+abbrev pub WorkedPointsHold : Type 0
+WorkedPointsHold = Each WorkedPointHolds workedPoints
