@@ -23,13 +23,13 @@ use Rattle.footprint.proofs.AnswerLaws.{lengths}
 
 -- ---- refusals
 
-ladder : (a b c d : Bool) {r : ℕ} → r ≡ cond a 5 (cond b 6 (cond c 7 (cond d 8 0)))
+listed-refusal : (a b c d : Bool) {r : ℕ} → r ≡ cond a 5 (cond b 6 (cond c 7 (cond d 8 0)))
     → (r ≡ 0) ⊎ (r ≡ 5) ⊎ (r ≡ 6) ⊎ (r ≡ 7) ⊎ (r ≡ 8)
-ladder true b c d e = inr (inl e)
-ladder false true c d e = inr (inr (inl e))
-ladder false false true d e = inr (inr (inr (inl e)))
-ladder false false false true e = inr (inr (inr (inr e)))
-ladder false false false false e = inl e
+listed-refusal true b c d e = inr (inl e)
+listed-refusal false true c d e = inr (inr (inl e))
+listed-refusal false false true d e = inr (inr (inr (inl e)))
+listed-refusal false false false true e = inr (inr (inr (inr e)))
+listed-refusal false false false false e = inl e
 
 module _ (counts marks : List ℕ) (area : ℕ) where
   answer-refusal : footprintOf counts marks area .refusal ≡ footprintRefusal counts marks area
@@ -56,7 +56,7 @@ module _ (counts marks : List ℕ) (area : ℕ) where
 
   pub refusal : Refusal counts marks area
   refusal = record {
-    listed = ladder (wrongLength counts marks) (wrongArea area) (wrongCount counts) (noMark marks) refusal-is;
+    listed = listed-refusal (wrongLength counts marks) (wrongArea area) (wrongCount counts) (noMark marks) refusal-is;
     zeros = λ h. answer-zeros (λ z. h (answer-refusal ∙ z)) ∙ ap refusedFootprint (sym answer-refusal);
   }
 
