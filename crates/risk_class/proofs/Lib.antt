@@ -1,4 +1,4 @@
-pub mod Points
+pub mod Cases
 pub mod TableLaws
 pub mod ClassLaws
 pub mod MitigationLaws
