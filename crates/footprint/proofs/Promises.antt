@@ -7,7 +7,7 @@ use Prim.Native.Nat.{ℕ, zero, suc, _+_, _*_, _^_, _≤_, _<_}
 use native.Mathlib.Nat.{le-of-eq, le-trans, le-of-suc-le-suc, mul-le-mul, one-mul}
 use native.Mathlib.Numerals.{add-one}
 use native.Mathlib.Omega.{arith}
-use borrow.Author.Tests.{eq-eqb, ne-eqb, eqb-true, eqb-false}
+use borrow.Author.Tests.{lt-ltb, eq-eqb, ne-eqb, eqb-true, eqb-false}
 use lib.Count.{ones}
 use lib.Dec.{eqb}
 use lib.ListN.{getD}
@@ -15,11 +15,15 @@ use Rattle.arithmetic.specs.SumsAndMaxima.{sumBelow, maxBelow, firstMaxBelow}
 use Rattle.arithmetic.proofs.TestLaws.{not-refused, inside}
 use Rattle.arithmetic.proofs.SumLaws.{sum-same, sum-le, sum-mono, max-mono, le-max, first-lt, first-at, first-before, sum-rows}
 use Rattle.footprint.specs.Map.{mapCells, mapRows, rowCells, largestCount, leastArea, largestArea, countAt, bitAt, markAt, keyAt, tableRow, cellsIn, wrongLength, wrongArea, wrongCount, noMark, footprintRefusal, refusedFootprint, foundFootprint, footprintOf}
-use Rattle.footprint.specs.Promises.{Refusal, Accepted, Ranges, Worst, SetBits, FootprintPromise, Monotone}
+use Rattle.footprint.specs.Promises.{EmptyCell, Refusal, Accepted, Ranges, Worst, SetBits, FootprintPromise, Monotone}
 use Rattle.footprint.specs.declared.Footprint.{Footprint}
 use Rattle.footprint.proofs.CellLaws.{mark-lt, marked-le, ones-of-row, no-key, row-mono, row-ge, row-le, rowOfKey, row-of-largest}
 use Rattle.footprint.proofs.WalkLaws.{counts-small, mark-here}
 use Rattle.footprint.proofs.AnswerLaws.{lengths}
+
+pub empty-cell : EmptyCell
+unfolding tableRow
+empty-cell area l = simp (lt-ltb 0 (5 * area) (omega arith))
 
 -- ---- refusals
 
