@@ -85,6 +85,7 @@ row-is-line counts r =
     line-of (joined (countText counts r) columns) (digits-joined (countText counts r) (λ k. digits-digits countWidth _) columns)
 
 text-accepted : (f : CaseFields) → isText (textOf f) ≡ true
+unfolding isText
 text-accepted f =
     rw (
       head-stands f .is,
@@ -164,6 +165,7 @@ module _ (t : List ℕ) (long : length t ≡ textLength) (accepted : isText t �
   Tests = (isLine (take marksStart t) ≡ true) × (areLines (take marksBytes (drop marksStart t)) markLine rows ≡ true) × (areLines (take countsBytes (drop countsStart t)) countLine rows ≡ true)
 
   tests : Tests
+  unfolding isText
   tests =
       let outer = both (isLine (take marksStart t) && areLines (take marksBytes (drop marksStart t)) markLine rows) (areLines (take countsBytes (drop countsStart t)) countLine rows) accepted in
       let inner = both (isLine (take marksStart t)) (areLines (take marksBytes (drop marksStart t)) markLine rows) (outer .0) in

@@ -1,9 +1,9 @@
--- `case_text::tests::reading_refusal` meets its contract.
+-- `case_text::refusals::reading_refusal` meets its contract.
 use mathlib.Core.Path.{sym, _∙_}
 use borrow.Author.Tests.{eqb-true, not-false}
 use Rattle.case_text.specs.Text.{readingRefusal}
-use Rattle.case_text.proofs.tests.reading_refusal.Statement.{statement}
-use Rattle.case_text.proofs.tests.reading_refusal.Tie as tie
+use Rattle.case_text.proofs.refusals.reading_refusal.Statement.{statement}
+use Rattle.case_text.proofs.refusals.reading_refusal.Tie as tie
 
 returns : tie.Need-returns
 unfolding readingRefusal
