@@ -6,9 +6,9 @@ use mathlib.Core.List.{List}
 use Prim.Native.Nat.{ℕ, _+_, _-_, _*_, _<_, _≤_}
 use native.Mathlib.Omega.{arith}
 use lib.Dec.{eqb}
-use lib.ListN.{length, getD, take, drop, length-take, length-drop, List·getD-eq-default}
+use lib.ListN.{length, getD, drop, length-take, List·getD-eq-default}
 use lib.Seq.{getD-take, getD-drop}
-use borrow.Author.Tests.{eq-eqb, ne-eqb, eqb-true, eqb-false}
+use borrow.Author.Tests.{ne-eqb, eqb-true}
 use Rattle.arithmetic.specs.Lists.{tabulate, part}
 use Rattle.arithmetic.proofs.TestLaws.{lt-or-le}
 use Rattle.arithmetic.proofs.ListLaws.{length-tabulate, tabulate-at, tabulate-same}

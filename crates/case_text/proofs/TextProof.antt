@@ -1,15 +1,15 @@
 -- The text law of specs/TextLaw.
 use mathlib.Core.Path.{_≡_, refl, ap, sym, _∙_}
 use mathlib.Core.Bool.{true, _&&_}
-use mathlib.Core.List.{List, [], _∷_, _++_}
-use Prim.Native.Nat.{ℕ, _+_, _-_, _*_, _/_, _%_, _^_, _<_, _≤_}
+use mathlib.Core.List.{List, _++_}
+use Prim.Native.Nat.{ℕ, _+_, _-_, _*_, _/_, _%_, _^_, _<_}
 use native.Mathlib.Omega.{arith}
 use lib.ListN.{length, getD, take, drop, length-append}
-use Rattle.arithmetic.specs.Lists.{tabulate, joined, part}
+use Rattle.arithmetic.specs.Lists.{joined, part}
 use Rattle.arithmetic.proofs.TestLaws.{both}
 use Rattle.arithmetic.proofs.ListLaws.{length-tabulate, length-joined, tabulate-at}
 use Rattle.arithmetic.proofs.PartLaws.{PartIs, whole-part, part-whole, parts-joined, part-left, part-right, part-at, joined-is, joined-part, tabulate-is, within}
-use Rattle.hex.specs.Digits.{field, number, written, isLine, lineEnd}
+use Rattle.hex.specs.Digits.{field, written, isLine, lineEnd}
 use Rattle.hex.proofs.DigitLaws.{length-digits, number-below}
 use Rattle.hex.proofs.LineLaws.{digits-digits, digits-joined, digits-within, field-read, field-is, line-of, line-at}
 use Rattle.hex.proofs.FieldLaws.{length-written, digits-written, fields-read, fields-are}
@@ -238,9 +238,6 @@ text-law =
 
 -- the law of one reading
 module _ (text counts marks : List ℕ) (r : Reading) (counts-after marks-after : List ℕ) (p : ReadingPromise text counts marks r counts-after marks-after) where
-  abbrev refusal : ℕ
-  refusal = readingRefusal text (length counts) (length marks)
-
   written-read : (f : CaseFields) → Fits f → text ≡ textOf f → length counts ≡ cells → length marks ≡ rows
       → (r ≡ record { refusal = 0; fields = f .head }) × (counts-after ≡ f .counts) × (marks-after ≡ f .marks)
   unfolding readingOf leftIn

@@ -6,7 +6,7 @@ use mathlib.Core.List.{List, [], _∷_, _++_}
 use Prim.Native.Nat.{ℕ, zero, suc, _+_, _-_, _*_, _/_, _%_, _^_, _<_, _≤_}
 use native.Mathlib.Nat.{pow-suc}
 use native.Mathlib.Omega.{arith}
-use lib.Dec.{ltb, leb}
+use lib.Dec.{leb}
 use lib.ListN.{length, getD, take, drop, set, length-append, length-set, List·getD-append}
 use lib.Seq.{drop-cons, append-snoc, getD-set-same, drop-set-lt, getD-at, getD-drop, take-suc}
 use borrow.Author.Tests.{lt-ltb, le-ltb, le-leb, lt-leb, leb-true}
