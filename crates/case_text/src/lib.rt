@@ -11,6 +11,7 @@ ghost use mathlib.Core.Path.{_≡_};
 ghost use Rattle.case_text.specs.Text.{noHead, ReadingPromise};
 
 // Line 1 of a case text.
+#[repr(C)]
 pub struct CaseHead {
     pub dimension: u32,
     pub mass: u32,
@@ -21,6 +22,7 @@ pub struct CaseHead {
 }
 
 // What a reading answers: the refusal number, 0 where there is none, and line 1, all zeros where it is refused.
+#[repr(C)]
 pub struct Reading {
     pub refusal: u8,
     pub fields: CaseHead,

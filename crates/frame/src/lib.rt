@@ -34,6 +34,7 @@ const END: usize = FINAL + 2;
 pub const FRAME_LENGTH: usize = END + 1;
 
 // The fields of a printed frame. Of a number that is longer than its field, the last digits are printed.
+#[repr(C)]
 pub struct FrameFields {
     pub low: u64,
     pub high: u64,
