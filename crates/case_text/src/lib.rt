@@ -1,12 +1,12 @@
 // The reading of a case text.
 mod fill;
 mod layout;
-mod tests;
+mod refusals;
 
 use fill::fill_counts;
 use fill::fill_marks;
 use fill::head_of;
-use tests::reading_refusal;
+use refusals::reading_refusal;
 ghost use mathlib.Core.Path.{_≡_};
 ghost use Rattle.case_text.specs.Text.{noHead, ReadingPromise};
 
@@ -18,6 +18,7 @@ pub const COUNTS_LENGTH: usize = layout::CELLS;
 pub const MARKS_LENGTH: usize = layout::ROWS;
 
 // Line 1 of a case text.
+#[repr(C)]
 pub struct CaseHead {
     pub dimension: u32,
     pub mass: u32,
@@ -28,6 +29,7 @@ pub struct CaseHead {
 }
 
 // What a reading answers: the refusal number, 0 where there is none, and line 1, all zeros where it is refused.
+#[repr(C)]
 pub struct Reading {
     pub refusal: u8,
     pub fields: CaseHead,

@@ -37,6 +37,7 @@ pub const FRAME_LENGTH: usize = END + 1;
 pub const REFUSAL_LENGTH: usize = LOW + 1;
 
 // The fields of a printed frame. Of a number that is longer than its field, the last digits are printed.
+#[repr(C)]
 pub struct FrameFields {
     pub low: u64,
     pub high: u64,
@@ -107,10 +108,10 @@ pub fn write_frame(refusal: u8, fields: FrameFields, buffer: &mut [u8]) -> u8
     if buffer.len() < FRAME_LENGTH {
         return 15;
     }
-    if refusal == 0 {
-        write_fields(buffer, fields);
-    } else {
+    if refusal != 0 {
         write_refusal(buffer, refusal);
+    } else {
+        write_fields(buffer, fields);
     }
     0
 }
