@@ -140,10 +140,6 @@ module _ {old : List ℕ} {a : ℕ} {done b : List ℕ} where
         kept = simp length-set (s .kept);
       }
 
-  -- a callee put x from a on
-  pub stored-next : (x : List ℕ) → a + length x ≤ length old → Filled old a done b → Filled old (a + length x) (done ++ x) (stored a x b)
-  stored-next x h s = part-next (length x) x x h s refl refl
-
   pub filled-all : length old ≤ a → Filled old a done b → b ≡ done
   filled-all h s = s .is ∙ rw (drop-of-length-le old h, append-nil)
 

@@ -51,11 +51,6 @@ module _ (f g : ℕ → ℕ) where
   max-mono zero h = le-refl 0
   max-mono (suc n) h = omega (arith, max-mono n (λ i l. h i (omega arith)), h n (omega arith))
 
-  pub sum-plus : (n : ℕ) → sumBelow (λ i. f i + g i) n ≡ sumBelow f n + sumBelow g n
-  unfolding sumBelow
-  sum-plus zero = refl
-  sum-plus (suc n) = omega (arith, sum-plus n)
-
 -- a function that keeps the order and 0 goes through the maximum
 pub max-map : (f g : ℕ → ℕ) → g 0 ≡ 0 → ((x y : ℕ) → x ≤ y → g x ≤ g y) → (n : ℕ) → maxBelow (λ i. g (f i)) n ≡ g (maxBelow f n)
 unfolding maxBelow

@@ -1,4 +1,4 @@
--- Laws of tests: two numbers compared, tests joined by "or" and "and", a choice by a test, a ladder of refusals, a test at each or at some index.
+-- Laws of tests: two numbers compared, tests joined by "or" and "and", a choice by a test, refusals tested in order, a test at each or at some index.
 use mathlib.Core.Path.{_≡_, refl, sym, ap, _∙_}
 use mathlib.Core.Logic.{_⊎_, inl, inr, ⊎-elim}
 use mathlib.Core.Bool.{Bool, true, false, cond, _||_, _&&_, true≢false, false≢true, or-true}
@@ -36,7 +36,7 @@ pub le-cond : (t : Bool) {a b k : ℕ} → k ≤ a → k ≤ b → k ≤ cond t 
 le-cond true h l = h
 le-cond false h l = l
 
--- a step of a ladder of refusals that gives none: its test failed, and the rest gives none
+-- refusals tested in order, of which none is given: the first test failed, and the rest give none
 pub not-refused : (t : Bool) (n rest : ℕ) → cond t (suc n) rest ≡ 0 → (t ≡ false) × (rest ≡ 0)
 not-refused true n rest e = let h : ⊥ = omega arith in absurd h
 not-refused false n rest e = (refl, e)

@@ -6,16 +6,17 @@ use mathlib.Core.List.{List}
 use Prim.Native.Nat.{ℕ, _+_, _-_, _*_, _<_, _≤_}
 use native.Mathlib.Omega.{arith}
 use lib.Dec.{eqb}
-use lib.ListN.{length, getD, take, drop, length-take, length-drop, List·getD-eq-default}
+use lib.ListN.{length, getD, drop, length-take, List·getD-eq-default}
 use lib.Seq.{getD-take, getD-drop}
-use borrow.Author.Tests.{eq-eqb, ne-eqb, eqb-true, eqb-false}
+use borrow.Author.Tests.{ne-eqb, eqb-true}
 use Rattle.arithmetic.specs.Lists.{tabulate, part}
 use Rattle.arithmetic.proofs.TestLaws.{lt-or-le}
 use Rattle.arithmetic.proofs.ListLaws.{length-tabulate, tabulate-at, tabulate-same}
+use Rattle.hex.specs.Digits.{field, isLine}
 use Rattle.hex.specs.Words.{wordOf, numberOfWord}
 use Rattle.hex.proofs.WordLaws.{word-number}
-use Rattle.case_text.specs.Layout.{columns, cells, rows, countWidth, countDigits, textLength}
-use Rattle.case_text.specs.Text.{isText, headOf, marksOf, countsOf, countOf, rowOf, noHead, readingRefusal, readingOf, leftIn, ReadingPromise, RefusedReading}
+use Rattle.case_text.specs.Layout.{dimensionWidth, massWidth, speedWidth, cellAreaWidth, controlledWidth, wordWidth, dimensionStart, massStart, speedStart, cellAreaStart, controlledStart, wordStart, rows, columns, cells, markLine, countWidth, countLine, marksStart, countsStart, textLength}
+use Rattle.case_text.specs.Text.{areLines, isText, headOf, marksOf, countsOf, countOf, rowOf, noHead, readingRefusal, readingOf, leftIn, ReadingPromise, RefusedReading}
 use Rattle.case_text.specs.declared.CaseHead.{CaseHead}
 use Rattle.case_text.specs.declared.Reading.{Reading}
 
@@ -44,9 +45,19 @@ pub row-long : (line : List ℕ) → length (rowOf line) ≡ columns
 unfolding rowOf
 row-long line = length-tabulate (countOf line) columns
 
--- three tests
-pub and-three : {a b c a′ b′ c′ : Bool} → a ≡ a′ → b ≡ b′ → c ≡ c′ → a && b && c ≡ a′ && b′ && c′
-and-three p q r = cc
+-- line 1 and the test of a text, from their parts
+
+pub head-is : (t : List ℕ) {dimension mass speed area controlled word : ℕ}
+    → dimension ≡ field t dimensionStart dimensionWidth → mass ≡ field t massStart massWidth → speed ≡ field t speedStart speedWidth
+    → area ≡ field t cellAreaStart cellAreaWidth → controlled ≡ field t controlledStart controlledWidth → word ≡ field t wordStart wordWidth
+    → record { dimension = dimension; mass = mass; speed = speed; «cell_area» = area; controlled = controlled; word = word } ≡ headOf t
+head-is t a b c d e f = rw (a, b, c, d, e, f)
+
+pub text-is : (t : List ℕ) {head marks counts : Bool}
+    → head ≡ isLine (part t 0 marksStart) → marks ≡ areLines (part t marksStart countsStart) markLine rows → counts ≡ areLines (part t countsStart textLength) countLine rows
+    → head && marks && counts ≡ isText t
+unfolding isText
+text-is t p q r = rw (p, q, r)
 
 -- the refusals
 

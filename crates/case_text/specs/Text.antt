@@ -17,7 +17,7 @@ unfoldable pub areLines : List ℕ → ℕ → ℕ → Bool
 areLines s width n = every (λ k. isLine (part s (k * width) (k * width + width))) n
 
 -- each byte is "a digit or line end in its place": line 1, the footprint's lines, the counts' lines
-abbrev pub isText : List ℕ → Bool
+unfoldable pub isText : List ℕ → Bool
 isText t = isLine (part t 0 marksStart) && areLines (part t marksStart countsStart) markLine rows && areLines (part t countsStart textLength) countLine rows
 
 -- line 1: "dimension 8, mass 8, speed 8, cell area 8, controlled mark 2, mitigation word 4"

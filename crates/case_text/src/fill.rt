@@ -30,7 +30,7 @@ ghost use Rattle.hex.specs.Words.{wordOf, numberOfWord};
 ghost use Rattle.case_text.specs.Layout.{columns, cells, rows, countWidth, countDigits, textLength};
 ghost use Rattle.case_text.specs.Text.{headOf, marksOf, rowOf, countsOf};
 
-pub fn head_of(text: &[u8]) -> CaseHead
+pub(crate) fn head_of(text: &[u8]) -> CaseHead
     requires { ⌜ length (now text) ≡ textLength ⌝ }
     ensures { λ r. ⌜ r ≡ headOf (now (text .entry)) ⌝ }
 {
@@ -44,7 +44,7 @@ pub fn head_of(text: &[u8]) -> CaseHead
     }
 }
 
-pub fn fill_marks(text: &[u8], marks: &mut [u64])
+pub(crate) fn fill_marks(text: &[u8], marks: &mut [u64])
     requires { ⌜ (length (now text) ≡ textLength) × (length (now marks) ≡ rows) ⌝ }
     ensures { λ _. ⌜ now (marks .exit) ≡ marksOf (now (text .entry)) ⌝ }
 {
@@ -91,7 +91,7 @@ fn fill_row(line: &[u8], row: &mut [u32])
     fill_words(&words, row);
 }
 
-pub fn fill_counts(text: &[u8], counts: &mut [u32])
+pub(crate) fn fill_counts(text: &[u8], counts: &mut [u32])
     requires { ⌜ (length (now text) ≡ textLength) × (length (now counts) ≡ cells) ⌝ }
     ensures { λ _. ⌜ now (counts .exit) ≡ countsOf (now (text .entry)) ⌝ }
 {

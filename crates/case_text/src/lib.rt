@@ -1,12 +1,12 @@
 // The reading of a case text.
 mod fill;
 mod layout;
-mod tests;
+mod refusals;
 
 use fill::fill_counts;
 use fill::fill_marks;
 use fill::head_of;
-use tests::reading_refusal;
+use refusals::reading_refusal;
 ghost use mathlib.Core.Path.{_≡_};
 ghost use Rattle.case_text.specs.Text.{noHead, ReadingPromise};
 

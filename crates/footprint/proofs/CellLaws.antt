@@ -13,7 +13,7 @@ use lib.Dec.{lit≤}
 use Rattle.arithmetic.specs.SumsAndMaxima.{sumBelow, maxBelow}
 use Rattle.arithmetic.proofs.TestLaws.{lt-or-le, cond-le, le-cond}
 use Rattle.arithmetic.proofs.SumLaws.{sum-same, max-same, max-map, ones-sum}
-use Rattle.footprint.specs.Map.{rowCells, largestCount, bitAt, markAt, belowDensity, tableRow}
+use Rattle.footprint.specs.Map.{rowCells, largestCount, squareKilometre, bitAt, markAt, belowDensity, tableRow}
 
 -- ---- marks
 
@@ -63,11 +63,11 @@ module _ (area : ℕ) where
       → cond (belowDensity x area density) v rx ≤ cond (belowDensity y area density) v ry
   step x y density v {rx} {ry} l hv h =
       ⊎-elim
-      (λ (k : y * 1000000 < density * area).
-      simp (lt-ltb (y * 1000000) (density * area) k, lt-ltb (x * 1000000) (density * area) (omega arith)) (le-refl v))
-      (λ (k : density * area ≤ y * 1000000).
-      simp (le-ltb (y * 1000000) (density * area) k) (cond-le (belowDensity x area density) hv h))
-      (lt-or-le (y * 1000000) (density * area))
+      (λ (k : y * squareKilometre < density * area).
+      simp (lt-ltb (y * squareKilometre) (density * area) k, lt-ltb (x * squareKilometre) (density * area) (omega arith)) (le-refl v))
+      (λ (k : density * area ≤ y * squareKilometre).
+      simp (le-ltb (y * squareKilometre) (density * area) k) (cond-le (belowDensity x area density) hv h))
+      (lt-or-le (y * squareKilometre) (density * area))
 
   -- a larger count has the same row or a higher one
   pub row-mono : (x y : ℕ) → x ≤ y → tableRow x area ≤ tableRow y area

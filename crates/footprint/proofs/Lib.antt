@@ -2,4 +2,4 @@ pub mod CellLaws
 pub mod WalkLaws
 pub mod AnswerLaws
 pub mod Promises
-pub mod Points
+pub mod Cases

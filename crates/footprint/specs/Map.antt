@@ -41,9 +41,13 @@ bitAt bits column = bits / 2 ^ (63 - column) % 2
 abbrev pub markAt : List ℕ → ℕ → ℕ
 markAt marks place = bitAt (getD marks (place / rowCells) 0) (place % rowCells)
 
--- a density below a number of people per square kilometre, with nothing divided: "people × 1,000,000 is less than 5 × s"
+-- in square metres
+abbrev pub squareKilometre : ℕ
+squareKilometre = 1000000
+
+-- fewer people per square kilometre than a density, with nothing divided: "people × 1,000,000 is less than 5 × s"
 abbrev pub belowDensity : ℕ → ℕ → ℕ → Bool
-belowDensity people area density = ltb (people * 1000000) (density * area)
+belowDensity people area density = ltb (people * squareKilometre) (density * area)
 
 -- "A cell's table row: 2 when people × 1,000,000 is less than 5 × s; else 3 for 50, 4 for 500, 5 for 5,000, 6 for 50,000; else 7."
 unfoldable pub tableRow : ℕ → ℕ → ℕ

@@ -8,6 +8,10 @@ use lib.ListN.{length, getD}
 use Rattle.arithmetic.specs.SumsAndMaxima.{sumBelow}
 use Rattle.footprint.specs.Map.{mapCells, mapRows, largestCount, leastArea, largestArea, countAt, markAt, tableRow, refusedFootprint, foundFootprint, footprintOf}
 
+-- "An empty cell is row 2."
+abbrev pub EmptyCell : Type 0
+EmptyCell = (area : ℕ) → leastArea ≤ area → tableRow 0 area ≡ 2
+
 -- the refusal is 0 or a number of the footprint's list, and where it isn't 0 all other numbers are zero (demand 1)
 pub record Refusal (counts marks : List ℕ) (area : ℕ) : Type 0 where
   pub listed : (footprintOf counts marks area .refusal ≡ 0)

@@ -4,9 +4,13 @@ use mathlib.Core.List.{List}
 use Prim.Native.Nat.{ℕ, _+_, _*_, max}
 use lib.Dec.{ltb}
 use Rattle.arithmetic.specs.SumsAndMaxima.{sumBelow, maxBelow, firstMaxBelow}
-use Rattle.footprint.specs.Map.{rowCells, countAt, bitAt, markAt, keyAt}
+use Rattle.footprint.specs.Map.{rowCells, largestCount, countAt, bitAt, markAt, keyAt}
 use Rattle.footprint.specs.declared.walk.RowWalk.{RowWalk}
 use Rattle.footprint.specs.declared.walk.MapWalk.{MapWalk}
+
+-- no key is larger
+abbrev pub largestKey : ℕ
+largestKey = largestCount + 1
 
 -- the key of a map row's cell
 abbrev pub rowKey : List ℕ → ℕ → ℕ → ℕ

@@ -8,7 +8,7 @@ ghost use Prim.Native.Nat.{ℕ, _+_, _*_, _^_, _<_, _≤_, max};
 ghost use lib.ListN.{length};
 ghost use Rattle.arithmetic.specs.SumsAndMaxima.{maxBelow, firstMaxBelow};
 ghost use Rattle.footprint.specs.Map.{mapCells, mapRows, rowCells, largestCount, countAt, wrongCount};
-ghost use Rattle.footprint.specs.Walk.{rowKey, rowWalk, withRow, mapWalk};
+ghost use Rattle.footprint.specs.Walk.{largestKey, rowKey, rowWalk, withRow, mapWalk};
 
 // A map row: its largest key, and the people and the number of its marked cells.
 pub struct RowWalk {
@@ -25,11 +25,12 @@ pub struct MapWalk {
     pub cells: u32,
 }
 
-// The larger of two keys.
+// The larger of two keys. Compared as signed numbers, since the machine has no instruction that compares vectors of unsigned ones.
 fn larger(a: u32, b: u32) -> u32
+    requires { ⌜ (a ≤ largestKey) × (b ≤ largestKey) ⌝ }
     ensures { λ r. ⌜ r ≡ max a b ⌝ }
 {
-    if a < b { b } else { a }
+    if (a as i32) < (b as i32) { b } else { a }
 }
 
 // One map row: its 64 counts and its footprint row.

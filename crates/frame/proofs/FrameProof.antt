@@ -1,8 +1,8 @@
--- The frame law of specs/FrameLaw.
+-- The frame law of specs/FrameLaw, and the lines of specs/WorkedLines.
 use mathlib.Core.Path.{_≡_, refl, ap, sym, _∙_}
 use mathlib.Core.Bool.{Bool, true, false, cond}
-use mathlib.Core.List.{List, [], _∷_, _++_, append-assoc}
-use Prim.Native.Nat.{ℕ, _+_, _^_, _<_, _≤_}
+use mathlib.Core.List.{List, _++_, append-assoc}
+use Prim.Native.Nat.{ℕ, _^_, _<_, _≤_}
 use native.Mathlib.Omega.{arith}
 use lib.Dec.{eqb, ltb}
 use lib.IntN.{ℤ, pos, negsuc}
@@ -10,13 +10,14 @@ use lib.ListN.{length, take, drop, length-append, length-drop}
 use lib.Seq.{take-at, drop-at}
 use borrow.Author.Tests.{le-ltb, ne-eqb, eqb-true, ltb-false}
 use Rattle.arithmetic.proofs.PartLaws.{PartIs, whole-part, part-whole, part-left, parts-joined}
-use Rattle.hex.specs.Digits.{field, written, isLine, lineEnd}
+use Rattle.hex.specs.Digits.{field, digits, written, isLine, lineEnd}
 use Rattle.hex.proofs.DigitLaws.{length-digits}
 use Rattle.hex.proofs.LineLaws.{line-at}
 use Rattle.hex.proofs.FieldLaws.{length-written, fields-read, fields-are}
 use Rattle.frame.specs.Layout.{refusalWidth, classWidth, frameDigits, frameLength, finalStart}
 use Rattle.frame.specs.Frame.{classByte, frameFields, frameLine, refusalFields, refusalLine, printed, framed}
 use Rattle.frame.specs.FrameLaw.{classOf, refusalIn, fieldsIn, ClassFits, FrameFits, Shows, FrameLaw}
+use Rattle.frame.specs.WorkedLines.{WorkedLines}
 use Rattle.frame.specs.declared.FrameFields.{FrameFields}
 
 -- the class byte
@@ -120,3 +121,7 @@ frame-law =
       rest-kept = rest-kept;
       length-kept = length-kept;
     }
+
+pub worked-lines : WorkedLines
+unfolding frameLine refusalLine digits
+worked-lines = record { p16 = refl; refusal-10 = refl; minus-one = refl }

@@ -1,3 +1,4 @@
 pub mod Layout
 pub mod Frame
 pub mod FrameLaw
+pub mod WorkedLines

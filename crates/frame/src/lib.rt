@@ -108,10 +108,10 @@ pub fn write_frame(refusal: u8, fields: FrameFields, buffer: &mut [u8]) -> u8
     if buffer.len() < FRAME_LENGTH {
         return 15;
     }
-    if refusal == 0 {
-        write_fields(buffer, fields);
-    } else {
+    if refusal != 0 {
         write_refusal(buffer, refusal);
+    } else {
+        write_fields(buffer, fields);
     }
     0
 }

@@ -1,5 +1,5 @@
 -- Eight digits in the lanes of one number become the number that they stand for.
-use mathlib.Core.Path.{_≡_, refl, sym, ap, ap₂, _∙_}
+use mathlib.Core.Path.{_≡_, refl, ap, ap₂, _∙_}
 use mathlib.Core.List.{List}
 use mathlib.Core.Logic.{⊎-elim}
 use Prim.Native.Nat.{ℕ, suc, _+_, _*_, _/_, _%_, _^_, _<_, _≤_}
@@ -8,7 +8,6 @@ use lib.Bits.{bitAnd}
 use lib.Dec.{lit<}
 use lib.ListN.{length, getD, drop, List·getD-eq-default}
 use lib.Seq.{getD-drop}
-use Rattle.arithmetic.specs.Lists.{tabulate}
 use Rattle.arithmetic.proofs.TestLaws.{lt-or-le}
 use Rattle.arithmetic.proofs.ListLaws.{length-tabulate, tabulate-at}
 use Rattle.hex.specs.Digits.{digitValue, number}

@@ -1,6 +1,6 @@
+pub mod Cases
 pub mod TableLaws
 pub mod ClassLaws
 pub mod MitigationLaws
 pub mod Promises
 pub mod Lower
-pub mod Points

@@ -11,6 +11,12 @@ use Rattle.risk_class.specs.declared.class_table.IntrinsicClass.{Intrins
 abbrev pub noClass : ℕ
 noClass = 0
 
+abbrev pub columns : ℕ
+columns = 5
+
+abbrev pub rows : ℕ
+rows = 7
+
 -- rows 1 to 7, row 1 for controlled ground, of columns 1 to 5
 abbrev pub classTable : List (List ℕ)
 classTable =
@@ -32,11 +38,11 @@ usedRow row controlled = cond (eqb controlled 1) 1 row
 
 -- "column not 1 to 5"
 abbrev pub wrongColumn : ℕ → Bool
-wrongColumn column = outside 1 5 column
+wrongColumn column = outside 1 columns column
 
 -- "9 column not 1 to 5, row not 2 to 7, or mark not 0 or 1"
 abbrev pub wrongReading : ℕ → ℕ → ℕ → Bool
-wrongReading column row controlled = wrongColumn column || outside 2 7 row || ltb 1 controlled
+wrongReading column row controlled = wrongColumn column || outside 2 rows row || ltb 1 controlled
 
 -- "Class refusals", in the order tested: 9, and "10 the entry is 'none'"; 0 where there is none
 unfoldable pub classRefusal : ℕ → ℕ → ℕ → ℕ

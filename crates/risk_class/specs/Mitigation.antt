@@ -7,15 +7,15 @@ use lib.IntN.{ℤ, pos, subℕ}
 use lib.ListN.{getD}
 use lib.Signed.{ltZ}
 use Rattle.arithmetic.specs.Tests.{anyBelow}
-use Rattle.risk_class.specs.ClassTable.{classAt, wrongColumn}
+use Rattle.risk_class.specs.ClassTable.{rows, classAt, wrongColumn}
 use Rattle.risk_class.specs.declared.mitigation.FinalClass.{FinalClass}
 
 -- stands for the credit of a digit that isn't offered
 abbrev pub notOffered : ℕ
 notOffered = 255
 
--- "M1(A) 1 gives 1, 2 gives 2; M1(B) 2 gives 1, 3 gives 2; M1(C) 1 gives 1; M2 2 gives 1, 3 gives 2; 0 gives nothing.
--- Other digits aren't offered."
+-- a row for each of M1(A), M1(B), M1(C) and M2, by "Digit 0 none, 1 low, 2 medium, 3 high": "M1(A) 1 gives 1, 2 gives 2; M1(B) 2 gives 1, 3 gives 2; M1(C) 1 gives 1; M2 2 gives 1,
+-- 3 gives 2; 0 gives nothing. Other digits aren't offered."
 abbrev pub creditTable : List (List ℕ)
 creditTable =
     (0 ∷ 1 ∷ 2 ∷ notOffered ∷ [])
@@ -24,6 +24,7 @@ creditTable =
     ∷ (0 ∷ notOffered ∷ 1 ∷ 2 ∷ [])
     ∷ []
 
+-- the credit of a digit
 unfoldable pub creditAt : ℕ → ℕ → ℕ
 creditAt which digit = cond (ltb digit 4) (getD (getD creditTable which []) digit 0) notOffered
 
@@ -31,6 +32,7 @@ creditAt which digit = cond (ltb digit 4) (getD (getD creditTable which []) digi
 abbrev pub digitAt : ℕ → ℕ → ℕ
 digitAt word which = word / 16 ^ (3 - which) % 16
 
+-- the credit that a word claims
 abbrev pub creditOf : ℕ → ℕ → ℕ
 creditOf word which = creditAt which (digitAt word which)
 
@@ -41,7 +43,7 @@ anyNotOffered word =
 
 -- "an entry of that column", in one of the rows 1 to 7; "none" is no entry
 abbrev pub isEntry : ℕ → ℕ → Bool
-isEntry column class = ltb 0 class && anyBelow (λ i. eqb (classAt (i + 1) column) class) 7
+isEntry column class = ltb 0 class && anyBelow (λ i. eqb (classAt (i + 1) column) class) rows
 
 -- "The three M1 credits come off the intrinsic class first, but never below the row 1 entry of the column."
 abbrev pub afterM1 : ℕ → ℕ → ℕ → ℕ

@@ -6,6 +6,10 @@ ghost use Rattle.risk_class.specs.ClassTable.{classAt, usedRow, intrinsi
 // An entry that is "none".
 const NO_CLASS: u8 = 0;
 
+pub const COLUMNS: u8 = 5;
+
+pub const ROWS: u8 = 7;
+
 // Rows 1 to 7, row 1 for controlled ground, of columns 1 to 5.
 const CLASSES: [[u8; 5]; 7] = [
     [1, 1, 2, 3, 3],
@@ -42,7 +46,7 @@ pub fn used_row(row: u8, controlled: u8) -> u8
 pub fn intrinsic_class(column: u8, row: u8, controlled: u8) -> IntrinsicClass
     ensures { λ r. ⌜ r ≡ intrinsicClassOf column row controlled ⌝ }
 {
-    if ((column < 1) | (5 < column)) | ((row < 2) | (7 < row)) | (1 < controlled) {
+    if ((column < 1) | (COLUMNS < column)) | ((row < 2) | (ROWS < row)) | (1 < controlled) {
         return IntrinsicClass {
             refusal: 9,
             class: 0,

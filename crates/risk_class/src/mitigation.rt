@@ -1,11 +1,13 @@
 // The mitigation word.
+use crate::class_table::COLUMNS;
+use crate::class_table::ROWS;
 use crate::class_table::entry;
 ghost use mathlib.Core.Path.{_≡_};
 ghost use Prim.Native.Nat.{_+_, _-_, _<_, _≤_, max};
 ghost use lib.Dec.{eqb};
 ghost use lib.IntN.{subℕ};
 ghost use Rattle.arithmetic.specs.Tests.{anyBelow};
-ghost use Rattle.risk_class.specs.ClassTable.{classAt};
+ghost use Rattle.risk_class.specs.ClassTable.{rows, classAt};
 ghost use Rattle.risk_class.specs.Mitigation.{creditAt, isEntry, refusedFinal, finalClassOf};
 
 // Stands for the credit of a digit that isn't offered.
@@ -52,11 +54,11 @@ fn credit(which: usize, digit: u16) -> u8
 // Whether some row of the column has this number.
 fn in_column(column: u8, class: u8) -> bool
     requires { ⌜ (1 ≤ column) × (column ≤ 5) ⌝ }
-    ensures { λ r. ⌜ r ≡ anyBelow (λ i. eqb (classAt (i + 1) column) class) 7 ⌝ }
+    ensures { λ r. ⌜ r ≡ anyBelow (λ i. eqb (classAt (i + 1) column) class) rows ⌝ }
 {
     let mut found = false;
     let mut i: u8 = 0;
-    while i < 7 {
+    while i < ROWS {
         found = found | (entry(i + 1, column) == class);
         i += 1;
     }
@@ -99,7 +101,7 @@ fn after_m2(class: u8, credit: u8) -> i8
 pub fn final_class(column: u8, class: u8, word: u16) -> FinalClass
     ensures { λ r. ⌜ r ≡ finalClassOf column class word ⌝ }
 {
-    if (column < 1) | (5 < column) {
+    if (column < 1) | (COLUMNS < column) {
         return refused(9);
     }
     if !is_entry(column, class) {

@@ -1,4 +1,5 @@
 -- `case_text::read_case` meets its contract.
+use native.Mathlib.Omega.{arith}
 use denote.Ref.{now}
 use Rattle.case_text.proofs.ReadingLaws.{reading-refused, none-accepted, reading-accepted}
 use borrow.Author.Needs.{needs}
@@ -16,13 +17,13 @@ returns c =
     let tested = c .before .before in
     let start = tested .before .before .before .before in
     reading-refused (now (start .args .text)) (now (start .args .counts)) (now (start .args .marks)) (tested .reading-refusal .result) (tested .reading-refusal .ensures)
-    (c .before .if1 .taken) (c .no-head .result) (c .no-head .ensures)
+    (λ zero. omega (arith, c .before .if1 .taken)) (c .no-head .result) (c .no-head .ensures)
 
 fill-counts-requires : tie.Need-fill-counts-requires
 fill-counts-requires c κs =
     let tested = c .before .before in
     let start = tested .before .before .before .before in
-    let accepted = none-accepted (now (start .args .text)) (now (start .args .counts)) (now (start .args .marks)) (tested .reading-refusal .result) (tested .reading-refusal .ensures) (c .before .if1 .left) in
+    let accepted = none-accepted (now (start .args .text)) (now (start .args .counts)) (now (start .args .marks)) (tested .reading-refusal .result) (tested .reading-refusal .ensures) (omega (arith, c .before .if1 .left)) in
     (accepted .text-long, accepted .counts-long)
 
 fill-marks-requires : tie.Need-fill-marks-requires
@@ -30,7 +31,7 @@ fill-marks-requires c κs =
     let at-if = c .before .before .before .before .before in
     let tested = at-if .before in
     let start = tested .before .before .before .before in
-    let accepted = none-accepted (now (start .args .text)) (now (start .args .counts)) (now (start .args .marks)) (tested .reading-refusal .result) (tested .reading-refusal .ensures) (at-if .if1 .left) in
+    let accepted = none-accepted (now (start .args .text)) (now (start .args .counts)) (now (start .args .marks)) (tested .reading-refusal .result) (tested .reading-refusal .ensures) (omega (arith, at-if .if1 .left)) in
     (accepted .text-long, accepted .marks-long)
 
 head-of-requires : tie.Need-head-of-requires
@@ -38,7 +39,7 @@ head-of-requires c κs =
     let at-if = c .before .before .before .before .before .before .before .before in
     let tested = at-if .before in
     let start = tested .before .before .before .before in
-    none-accepted (now (start .args .text)) (now (start .args .counts)) (now (start .args .marks)) (tested .reading-refusal .result) (tested .reading-refusal .ensures) (at-if .if1 .left) .text-long
+    none-accepted (now (start .args .text)) (now (start .args .counts)) (now (start .args .marks)) (tested .reading-refusal .result) (tested .reading-refusal .ensures) (omega (arith, at-if .if1 .left)) .text-long
 
 same-length : tie.Need-same-length
 same-length c = search needs
@@ -54,7 +55,7 @@ returns-2 c =
     let tested = at-if .before in
     let start = tested .before .before .before .before in
     reading-accepted (now (start .args .text)) (now (start .args .counts)) (now (start .args .marks)) (tested .reading-refusal .result) (tested .reading-refusal .ensures)
-    (at-if .if1 .left) (c .head-of .result) (c .head-of .ensures) (at-counts .fill-counts .last .1 .0) (at-marks .fill-marks .last .1 .0) (at-counts .fill-counts .ensures) (at-marks .fill-marks .ensures)
+    (omega (arith, at-if .if1 .left)) (c .head-of .result) (c .head-of .ensures) (at-counts .fill-counts .last .1 .0) (at-marks .fill-marks .last .1 .0) (at-counts .fill-counts .ensures) (at-marks .fill-marks .ensures)
 
 pub read-case-spec : {M : Type 1} → statement M
 read-case-spec =

@@ -1,5 +1,7 @@
 -- `case_text::fill::head_of` meets its contract.
+use denote.Ref.{now}
 use borrow.Author.Needs.{needs}
+use Rattle.case_text.proofs.ReadingLaws.{head-is}
 use Rattle.case_text.proofs.fill.head_of.Statement.{statement}
 use Rattle.case_text.proofs.fill.head_of.Tie as tie
 
@@ -76,7 +78,14 @@ number-of-four-requires : tie.Need-number-of-four-requires
 number-of-four-requires c κs = search needs
 
 returns : tie.Need-returns
-returns c = cc
+returns c =
+    let at5 = c .before .before in
+    let at4 = at5 .before .before in
+    let at3 = at4 .before .before in
+    let at2 = at3 .before .before in
+    let at1 = at2 .before .before in
+    head-is (now (at1 .before .before .before .args .text)) (at1 .number-of-eight .ensures) (at2 .number-of-eight2 .ensures) (at3 .number-of-eight3 .ensures) (at4 .number-of-eight4 .ensures)
+    (at5 .number-of-two .ensures) (c .number-of-four .ensures)
 
 pub head-of-spec : {M : Type 1} → statement M
 head-of-spec =

@@ -4,8 +4,8 @@ use Prim.Native.Nat.{ℕ, _+_, _-_, _*_, _≤_, max}
 use native.Mathlib.Omega.{arith}
 use Rattle.arithmetic.specs.SumsAndMaxima.{sumBelow, maxBelow}
 use Rattle.arithmetic.proofs.SumLaws.{max-next, sum-next}
-use Rattle.footprint.specs.Map.{rowCells, largestCount, countAt, bitAt}
-use Rattle.footprint.specs.Walk.{rowKey, rowWalk}
+use Rattle.footprint.specs.Map.{rowCells, countAt, bitAt}
+use Rattle.footprint.specs.Walk.{largestKey, rowKey, rowWalk}
 use Rattle.footprint.proofs.CellLaws.{key-le}
 use Rattle.footprint.proofs.WalkLaws.{row-empty, row-is, cells-le}
 use Rattle.footprint.proofs.walk.walk_row.Statement.{statement}
@@ -13,7 +13,7 @@ use Rattle.footprint.proofs.walk.walk_row.Tie as tie
 
 abbrev Inv-loop : tie.InvT-loop
 Inv-loop counts bits worst₀ sum₀ c₀ worst sum c =
-    (c ≤ rowCells) × (sum ≤ c * (largestCount + 1)) × (worst ≡ maxBelow (rowKey counts bits) c) × (sum ≡ sumBelow (rowKey counts bits) c)
+    (c ≤ rowCells) × (sum ≤ c * largestKey) × (worst ≡ maxBelow (rowKey counts bits) c) × (sum ≡ sumBelow (rowKey counts bits) c) × (worst ≤ largestKey)
 
 abbrev μ-loop : tie.MeasureT-loop
 μ-loop counts bits worst₀ sum₀ c₀ worst sum c = rowCells - c
@@ -24,7 +24,7 @@ returns c =
 
 loop-holds : tie.Need-loop-holds Inv-loop μ-loop
 unfolding sumBelow maxBelow
-loop-holds c = (omega arith, omega arith, refl, refl)
+loop-holds c = (omega arith, omega arith, refl, refl, omega arith)
 
 mul-key : tie.Need-mul-key Inv-loop μ-loop
 mul-key c = omega arith
@@ -35,15 +35,15 @@ shared-slice-read-key c = omega arith
 key-requires : tie.Need-key-requires Inv-loop μ-loop
 key-requires c κs = (omega arith, c .before .before .before .before .before .pre .1 (c .before .before .loop .c) (omega arith))
 
-larger-requires : tie.Need-larger-requires Inv-loop μ-loop
-larger-requires c κs = tt
-
-small : (c : tie.After-key Inv-loop μ-loop) → c .key .result ≤ largestCount + 1
+small : (c : tie.After-key Inv-loop μ-loop) → c .key .result ≤ largestKey
 small c =
     let at = c .before .before .before .loop in
     let start = c .before .before .before .before .before .before in
     let l = key-le (bitAt (start .args .bits) (at .c)) (countAt (start .args .counts .now) (at .c)) (omega arith) (start .pre .1 (at .c) (omega arith)) in
     omega (arith, c .key .ensures, l)
+
+larger-requires : tie.Need-larger-requires Inv-loop μ-loop
+larger-requires c κs = (c .before .before .before .loop .inv .4, small c)
 
 add-sum : tie.Need-add-sum Inv-loop μ-loop
 add-sum c = let b = small (c .before) in omega (arith, b)
@@ -64,6 +64,7 @@ loop-again c =
       omega (arith, b),
       c .larger .ensures ∙ ap₂ max (at .inv .2) (c .before .key .ensures) ∙ sym (max-next key (at .c)),
       ap₂ (λ (x y : ℕ). x + y) (at .inv .3) (c .before .key .ensures) ∙ sym (sum-next key (at .c)),
+      omega (arith, c .larger .ensures, at .inv .4, b),
     )
 
 sub-t13 : tie.Need-sub-t13 Inv-loop μ-loop

@@ -3,8 +3,9 @@ use denote.Ref.{now}
 use borrow.Author.Needs.{needs}
 use native.Mathlib.Omega.{arith}
 use Prim.Native.Nat.{ℕ, _≤_, _-_}
-use mathlib.Core.Path.{_≡_, refl, sym}
-use mathlib.Core.Bool.{false}
+use mathlib.Core.Path.{_≡_, refl, ap, sym}
+use mathlib.Core.Bool.{Bool, false, _&&_}
+use lib.Dec.{eqb}
 use mathlib.Core.List.{List, [], _∷_}
 use lib.ListN.{length, getD}
 use Rattle.arithmetic.specs.Lists.{every}
@@ -56,7 +57,11 @@ shared-slice-read-result c = omega arith
 
 returns-2 : tie.Need-returns-2 Inv-loop μ-loop
 unfolding isLine
-returns-2 c = let past : c .before .before .loop .i ≡ length (now (c .before .before .before .before .before .args .s)) - 1 = omega arith in cc
+returns-2 c =
+    let at-loop = c .before .before in
+    let s = now (at-loop .before .before .before .args .s) in
+    let past : at-loop .loop .i ≡ length s - 1 = omega arith in
+    ap (λ (good : Bool). good && eqb (getD s (length s - 1) 0) 10) (rw past at (at-loop .loop .inv .1))
 
 pub is-line-spec : {M : Type 1} → statement M
 is-line-spec =

@@ -1,5 +1,4 @@
 -- `hex::writer::write_digits` meets its contract.
-use denote.Ref.{now}
 use lib.Seq.{drop-length}
 use mathlib.Core.Path.{_≡_, refl, _∙_}
 use mathlib.Core.List.{_++_, append-nil}

@@ -37,13 +37,15 @@ fn is_text(text: &[u8]) -> bool
 }
 
 // The refusals in their order, for lent buffers of so many counts and marks.
-pub fn reading_refusal(text: &[u8], counts: usize, marks: usize) -> u8
+pub(crate) fn reading_refusal(text: &[u8], counts: usize, marks: usize) -> u8
     ensures { λ r. ⌜ r ≡ readingRefusal (now (text .entry)) counts marks ⌝ }
 {
-    if text.len() != TEXT {
+    let wrong_length = text.len() != TEXT;
+    let wrong_buffers = (counts != CELLS) | (marks != ROWS);
+    if wrong_length {
         return 13;
     }
-    if (counts != CELLS) | (marks != ROWS) {
+    if wrong_buffers {
         return 5;
     }
     if is_text(text) { 0 } else { 14 }

@@ -1,7 +1,7 @@
--- `case_text::tests::are_lines` meets its contract.
+-- `case_text::refusals::are_lines` meets its contract.
 use borrow.Author.Needs.{needs}
 use native.Mathlib.Omega.{arith}
-use Prim.Native.Nat.{ℕ, _≤_, _<_, _-_, _+_, _*_}
+use Prim.Native.Nat.{_≤_, _-_, _+_, _*_}
 use mathlib.Core.Path.{_≡_, refl}
 use lib.ListN.{length}
 use denote.Ref.{now}
@@ -10,8 +10,8 @@ use Rattle.arithmetic.proofs.ListLaws.{every-one}
 use Rattle.arithmetic.proofs.PartLaws.{part-ends}
 use Rattle.hex.specs.Digits.{isLine}
 use Rattle.case_text.specs.Text.{areLines}
-use Rattle.case_text.proofs.tests.are_lines.Statement.{statement}
-use Rattle.case_text.proofs.tests.are_lines.Tie as tie
+use Rattle.case_text.proofs.refusals.are_lines.Statement.{statement}
+use Rattle.case_text.proofs.refusals.are_lines.Tie as tie
 
 abbrev Inv-loop : tie.InvT-loop
 Inv-loop s width n good₀ k₀ good k = (k ≤ n) × (good ≡ areLines s width k)

@@ -1,8 +1,9 @@
--- `case_text::tests::is_text` meets its contract.
-use Rattle.case_text.proofs.ReadingLaws.{and-three}
+-- `case_text::refusals::is_text` meets its contract.
+use Rattle.case_text.proofs.ReadingLaws.{text-is}
+use denote.Ref.{now}
 use borrow.Author.Needs.{needs}
-use Rattle.case_text.proofs.tests.is_text.Statement.{statement}
-use Rattle.case_text.proofs.tests.is_text.Tie as tie
+use Rattle.case_text.proofs.refusals.is_text.Statement.{statement}
+use Rattle.case_text.proofs.refusals.is_text.Tie as tie
 
 sub-is-line : tie.Need-sub-is-line
 sub-is-line c = search needs
@@ -41,7 +42,9 @@ are-lines-requires-2 : tie.Need-are-lines-requires-2
 are-lines-requires-2 c κs = search needs
 
 returns : tie.Need-returns
-returns c = and-three (c .before .before .before .before .is-line .ensures) (c .before .before .are-lines .ensures) (c .are-lines2 .ensures)
+returns c =
+    let start = c .before .before .before .before .before .before .before in
+    text-is (now (start .args .text)) (c .before .before .before .before .is-line .ensures) (c .before .before .are-lines .ensures) (c .are-lines2 .ensures)
 
 pub is-text-spec : {M : Type 1} → statement M
 is-text-spec =
