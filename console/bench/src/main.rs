@@ -40,7 +40,7 @@ fn sheet_contest(aircraft: Vec<Aircraft>) -> Contest {
             let aircraft = aircraft.clone();
             Box::new(move || {
                 for a in &aircraft {
-                    black_box($sheet(black_box(a.dimension), black_box(a.mass), black_box(a.speed)));
+                    let _ = black_box($sheet(black_box(a.dimension), black_box(a.mass), black_box(a.speed)));
                 }
             })
         }};
@@ -55,7 +55,7 @@ fn footprint_contest(name: &'static str, maps: Vec<Map>) -> Contest {
             let maps = maps.clone();
             Box::new(move || {
                 for m in &maps {
-                    black_box($footprint(black_box(&m.counts), black_box(&m.marks), black_box(m.cell_area)));
+                    let _ = black_box($footprint(black_box(&m.counts), black_box(&m.marks), black_box(m.cell_area)));
                 }
             })
         }};
@@ -70,7 +70,7 @@ fn reading_contest(name: &'static str, texts: &[Vec<u8>]) -> Contest {
             let (texts, mut b) = (texts.to_vec(), buffers());
             Box::new(move || {
                 for text in &texts {
-                    black_box($read_case(black_box(text), black_box(&mut b.counts), black_box(&mut b.marks)));
+                    let _ = black_box($read_case(black_box(text), black_box(&mut b.counts), black_box(&mut b.marks)));
                 }
             })
         }};
@@ -89,7 +89,7 @@ fn case_contest(name: &'static str, texts: &[Vec<u8>], answer: u8, tuned_at_leas
             Box::new(move || {
                 for text in &texts {
                     let (counts, marks) = (black_box(&mut b.counts), black_box(&mut b.marks));
-                    black_box($case(black_box(text), counts, marks, black_box(&mut b.frame)));
+                    let _ = black_box($case(black_box(text), counts, marks, black_box(&mut b.frame)));
                 }
             })
         }};
