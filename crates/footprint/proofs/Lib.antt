@@ -2,4 +2,4 @@ pub mod CellLaws
 pub mod WalkLaws
 pub mod AnswerLaws
 pub mod Promises
-pub mod Cases
+pub mod PointsHold

@@ -13,11 +13,11 @@ use Rattle.sheet.specs.Sheet.{withLines, linesOf, sheetOf}
 use Rattle.sheet.specs.Points.{sheetPoints}
 use Rattle.sheet.proofs.PointsHold.{sheet-points-hold}
 use Rattle.footprint.specs.Points.{P16Map, rowPoints}
-use Rattle.footprint.proofs.Points.{row-points-hold, p16-footprint}
+use Rattle.footprint.proofs.PointsHold.{row-points-hold, p16-footprint}
 use Rattle.risk_class.specs.ClassTable.{classAt, classRefusal, intrinsicClassOf}
 use Rattle.risk_class.specs.Mitigation.{creditAt, mitigationRefusal, finalClassOf}
 use Rattle.risk_class.specs.Points.{finalPoints}
-use Rattle.risk_class.proofs.Points.{final-points-hold}
+use Rattle.risk_class.proofs.PointsHold.{final-points-hold}
 use Rattle.assessment.specs.declared.Assessment.{Assessment}
 use Rattle.assessment.specs.Working.{afterClass, afterFootprint, workingOn}
 use Rattle.assessment.specs.Assessment.{assessedBy, assessmentOf}

@@ -1,4 +1,4 @@
-pub mod Cases
+pub mod PointsHold
 pub mod TableLaws
 pub mod ClassLaws
 pub mod MitigationLaws
