@@ -45,7 +45,7 @@ install: $(LIBRARY) $(PROGRAM)
 
 # ---- the boundary
 
-test-boundary: tools test-lent test-faults test-valgrind test-install test-rust
+test-boundary: test-lent test-faults test-valgrind test-install test-rust
 	@echo 'test-boundary: all passed'
 
 tools:
@@ -62,14 +62,14 @@ $(MADE)/boundary-faults: console/tests/boundary.c console/tests/boundary_faults.
 	$(CC) $(CFLAGS) -Wl,--wrap=nb_case -Iconsole/include console/tests/boundary.c console/tests/boundary_faults.c $(LIBRARY) -o $@
 
 # every lent buffer against unreadable memory on both sides
-test-lent: $(MADE)/boundary $(CALLS)
+test-lent: tools $(MADE)/boundary $(CALLS)
 	$(MADE)/boundary $(CALLS)
 
-test-valgrind: $(MADE)/boundary $(CALLS)
+test-valgrind: tools $(MADE)/boundary $(CALLS)
 	valgrind --quiet --error-exitcode=9 --leak-check=no $(MADE)/boundary --heap $(CALLS)
 
 # each fault must be noticed: by the comparison or the unreadable memory, and reading what isn't initialised by valgrind
-test-faults: $(MADE)/boundary-faults $(CALLS)
+test-faults: tools $(MADE)/boundary-faults $(CALLS)
 	@for fault in $(FAULTS); do \
 	    if FAULT=$$fault $(MADE)/boundary-faults $(CALLS) >/dev/null 2>&1; then echo "test-faults: fault $$fault wasn't noticed"; exit 1; fi; done
 	@if FAULT=u valgrind --quiet --error-exitcode=9 --exit-on-first-error=yes --leak-check=no $(MADE)/boundary-faults --heap $(CALLS) >/dev/null 2>&1; \
@@ -78,23 +78,23 @@ test-faults: $(MADE)/boundary-faults $(CALLS)
 
 # what is installed serves the C example and the program
 test-install: export PREFIX = $(MADE)/installed
-test-install: $(LIBRARY) $(PROGRAM)
+test-install: tools $(LIBRARY) $(PROGRAM) | $(MADE)
 	rm -rf $(MADE)/installed
 	$(MAKE) --no-print-directory install >/dev/null
 	grep -qx 'prefix=$(abspath $(MADE)/installed)' $(MADE)/installed/lib/pkgconfig/nuggetbay.pc
 	$(CC) -std=c99 $(filter-out -std=%,$(CFLAGS)) console/examples/case.c -I$(MADE)/installed/include -L$(MADE)/installed/lib -lnuggetbay -o $(MADE)/case-c
 	@for name in $(EXAMPLES); do \
-	    $(MADE)/case-c examples/$$name.case >$(MADE)/words; \
-	    cmp $(MADE)/words console/examples/$$name.words || exit 1; \
+	    $(MADE)/case-c examples/$$name.case >$(MADE)/words-c; \
+	    cmp $(MADE)/words-c console/examples/$$name.words || exit 1; \
 	    $(MADE)/installed/bin/nuggetbay-case <examples/$$name.case | cmp - examples/$$name.frame || exit 1; done
 	@echo 'the installed library, header and program give the examples as stored'
 
-test-rust: $(LIBRARY)
+test-rust: tools $(LIBRARY) | $(MADE)
 	$(CARGO) test --release --quiet --package nuggetbay
 	$(CARGO) build --release --quiet --package nuggetbay --example case
 	@for name in $(EXAMPLES); do \
-	    target/cargo/release/examples/case examples/$$name.case >$(MADE)/words; \
-	    cmp $(MADE)/words console/examples/$$name.words || exit 1; done
+	    target/cargo/release/examples/case examples/$$name.case >$(MADE)/words-rust; \
+	    cmp $(MADE)/words-rust console/examples/$$name.words || exit 1; done
 	@echo 'the Rust example gives the examples as stored'
 
 # ---- the benchmark

@@ -46,7 +46,11 @@ pub fn any_aircraft(random: &mut Random) -> Aircraft {
 
 /// Of column 1, so that every row of the class table has a class.
 pub fn small_aircraft(random: &mut Random) -> Aircraft {
-    Aircraft { dimension: random.between(300, 1_000), mass: random.between(250, 25_000), speed: random.between(0, 3_000) }
+    Aircraft {
+        dimension: random.between(300, 1_000),
+        mass: random.between(250, 25_000),
+        speed: random.between(0, 3_000),
+    }
 }
 
 #[derive(Clone)]
@@ -79,7 +83,8 @@ pub fn text(aircraft: Aircraft, map: &Map, controlled: u8, word: u16) -> Vec<u8>
     let mut text = String::with_capacity(33_959);
     let Aircraft { dimension, mass, speed } = aircraft;
     let cell_area = map.cell_area;
-    writeln!(text, "{dimension:08x}{mass:08x}{speed:08x}{cell_area:08x}{controlled:02x}{word:04x}").expect("a String grows");
+    writeln!(text, "{dimension:08x}{mass:08x}{speed:08x}{cell_area:08x}{controlled:02x}{word:04x}")
+        .expect("a String grows");
     for mark in &map.marks {
         writeln!(text, "{mark:016x}").expect("a String grows");
     }

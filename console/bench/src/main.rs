@@ -87,7 +87,13 @@ fn reading_contest(name: &'static str, texts: &Rc<Vec<Vec<u8>>>) -> Contest {
     Contest { name, inputs: texts.len(), runs, tuned_at_least: 1.0, obvious_at_least: 0.0 }
 }
 
-fn case_contest(name: &'static str, texts: &Rc<Vec<Vec<u8>>>, answer: u8, tuned_at_least: f64, obvious_at_least: f64) -> Contest {
+fn case_contest(
+    name: &'static str,
+    texts: &Rc<Vec<Vec<u8>>>,
+    answer: u8,
+    tuned_at_least: f64,
+    obvious_at_least: f64,
+) -> Contest {
     let lent = buffers();
     macro_rules! run {
         ($case:path) => {{
@@ -196,17 +202,32 @@ fn compare() {
     agreement::sheets(&mut random, &mut tally);
     agreement::footprints(&mut random, &mut tally);
     agreement::cases(&mut random, &mut tally);
-    println!("All three agree on {} inputs, {} of them refused, and on what is left in the lent buffers.\n", tally.inputs, tally.refused);
+    println!(
+        "All three agree on {} inputs, {} of them refused, and on what is left in the lent buffers.\n",
+        tally.inputs, tally.refused
+    );
 }
 
 fn print_table() {
+    println!(
+        "{} texts, {} maps, {} aircraft, all different, shared by the contestants. Lent buffers are lent again without clearing.\n",
+        inputs::TEXTS,
+        inputs::MAPS,
+        inputs::AIRCRAFT
+    );
     let counts = instructions::all();
     println!("| best of many rounds, an input | library | tuned | obvious | tuned / library | obvious / library | instructions: library | tuned | obvious |");
     println!("|---|---|---|---|---|---|---|---|---|");
     let mut missed = Vec::new();
     for mut contest in contests() {
         let best = best_times(&mut contest, Duration::from_millis(1_500));
-        let time = |who: usize| if best[0] < 1_000.0 { format!("{:.1} ns", best[who]) } else { format!("{:.2} µs", best[who] / 1e3) };
+        let time = |who: usize| {
+            if best[0] < 1_000.0 {
+                format!("{:.1} ns", best[who])
+            } else {
+                format!("{:.2} µs", best[who] / 1e3)
+            }
+        };
         let counted = |who: usize| {
             let total = counts.as_ref().and_then(|counts| counts.get(&counted_name(&contest, who)));
             total.map_or("not counted".to_string(), |total| format!("{}", total / contest.inputs as u64))
@@ -214,13 +235,22 @@ fn print_table() {
         let (tuned, obvious) = (best[1] / best[0], best[2] / best[0]);
         println!(
             "| {} | {} | {} | {} | {tuned:.2} | {obvious:.2} | {} | {} | {} |",
-            contest.name, time(0), time(1), time(2), counted(0), counted(1), counted(2)
+            contest.name,
+            time(0),
+            time(1),
+            time(2),
+            counted(0),
+            counted(1),
+            counted(2)
         );
         if tuned < contest.tuned_at_least - NOISE {
             missed.push(format!("{}: tuned / library is {tuned:.2}, wanted {}", contest.name, contest.tuned_at_least));
         }
         if obvious < contest.obvious_at_least - NOISE {
-            missed.push(format!("{}: obvious / library is {obvious:.2}, wanted {}", contest.name, contest.obvious_at_least));
+            missed.push(format!(
+                "{}: obvious / library is {obvious:.2}, wanted {}",
+                contest.name, contest.obvious_at_least
+            ));
         }
     }
     println!("\nTargets missed: {}", if missed.is_empty() { "none".to_string() } else { missed.join("; ") });

@@ -24,16 +24,10 @@ pub fn sheet(dimension: u32, mass: u32, speed: u32) -> Result<Sheet, u8> {
     };
     let mass = u64::from(mass);
     let saving = Bracket { low: 39_415_562_351 / mass, high: 39_415_562_352u64.div_ceil(mass) };
-    let slide = Bracket {
-        low: run.low.saturating_sub(saving.high),
-        high: run.high.saturating_sub(saving.low),
-    };
+    let slide = Bracket { low: run.low.saturating_sub(saving.high), high: run.high.saturating_sub(saving.low) };
     let a = u64::from(dimension) + 600;
     let total_at = |glide: u64, slide: u64| a * (glide + slide) + 785 * a * a;
-    let total = Bracket {
-        low: total_at(glide.low, slide.low),
-        high: total_at(glide.high, slide.high),
-    };
+    let total = Bracket { low: total_at(glide.low, slide.low), high: total_at(glide.high, slide.high) };
     let area = if dimension > 8_000 {
         Bracket { low: total.low / 100_000, high: total.high.div_ceil(100_000) }
     } else if dimension > 1_000 {

@@ -1,6 +1,9 @@
 //! The operations tuned by hand for the same target (x86-64 with SSE2, safe Rust, no intrinsics): no early exit where bytes or
 //! cells are walked, lanes of digits, cells chosen by masks, one division where two quotients differ by one.
 
+// A sum and one division by a constant; div_ceil would also take the remainder.
+#![allow(clippy::manual_div_ceil)]
+
 use nuggetbay::{Bracket, CaseHead, Footprint, FrameFields, Reading, Sheet, SheetAnswer};
 
 const LIMITS: [u64; 5] = [65_000, 650_000, 6_500_000, 65_000_000, 650_000_000];
@@ -28,16 +31,10 @@ pub fn sheet(dimension: u32, mass: u32, speed: u32) -> SheetAnswer {
     // one more than the low dividend: its quotient rounded up is the low quotient and one
     let low = 39_415_562_351 / u64::from(mass);
     let saving = Bracket { low, high: low + 1 };
-    let slide = Bracket {
-        low: run.low.saturating_sub(saving.high),
-        high: run.high.saturating_sub(saving.low),
-    };
+    let slide = Bracket { low: run.low.saturating_sub(saving.high), high: run.high.saturating_sub(saving.low) };
     let a = u64::from(dimension) + 600;
     let round = 785 * a;
-    let total = Bracket {
-        low: a * (2_570_666 + slide.low + round),
-        high: a * (2_570_667 + slide.high + round),
-    };
+    let total = Bracket { low: a * (2_570_666 + slide.low + round), high: a * (2_570_667 + slide.high + round) };
     let area = if dimension > 8_000 {
         Bracket { low: total.low / 100_000, high: (total.high + 99_999) / 100_000 }
     } else if dimension > 1_000 {

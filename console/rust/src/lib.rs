@@ -97,14 +97,7 @@ pub fn assess(
 pub fn read_case(text: &[u8], counts: &mut [u32], marks: &mut [u64]) -> Result<CaseHead, Refusal> {
     // SAFETY: the slices are valid for their lengths and don't overlap.
     let answer = unsafe {
-        ffi::nb_read_case(
-            text.as_ptr(),
-            text.len(),
-            counts.as_mut_ptr(),
-            counts.len(),
-            marks.as_mut_ptr(),
-            marks.len(),
-        )
+        ffi::nb_read_case(text.as_ptr(), text.len(), counts.as_mut_ptr(), counts.len(), marks.as_mut_ptr(), marks.len())
     };
     unless_refused(answer.refusal, answer.fields)
 }

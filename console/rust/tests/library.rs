@@ -147,9 +147,20 @@ fn a_short_frame_buffer_changes_nothing() {
 #[test]
 fn line_1_is_read_and_frames_are_written() {
     let mut l = lent();
-    let head = CaseHead { dimension: 1_000, mass: 10_000, speed: 2_500, cell_area: 10_000, controlled: 0, word: 0x1000 };
+    let head =
+        CaseHead { dimension: 1_000, mass: 10_000, speed: 2_500, cell_area: 10_000, controlled: 0, word: 0x1000 };
     assert_eq!(read_case(&text(), &mut l.counts, &mut l.marks), Ok(head));
-    let fields = FrameFields { low: 1, high: 2, column: 3, flag: 1, row: 4, place: 4_095, people: 5, intrinsic: 6, final_class: -1 };
+    let fields = FrameFields {
+        low: 1,
+        high: 2,
+        column: 3,
+        flag: 1,
+        row: 4,
+        place: 4_095,
+        people: 5,
+        intrinsic: 6,
+        final_class: -1,
+    };
     assert_eq!(write_frame(Ok(fields), &mut l.frame), Ok(FRAME_LENGTH));
     assert_eq!(&l.frame[..42], b"0000000001000000020301040fff0000000506ff\nx");
     assert_eq!(write_frame(Err(Refusal::NoClass), &mut l.frame), Ok(REFUSAL_LENGTH));
