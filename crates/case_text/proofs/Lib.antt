@@ -1,3 +1,4 @@
 pub mod ReadingLaws
 pub mod BlockLaws
+pub mod WrittenText
 pub mod TextProof

@@ -23,11 +23,12 @@ use Rattle.assessment.specs.Working.{afterClass, afterFootprint, workingOn}
 use Rattle.assessment.specs.Assessment.{assessedBy, assessmentOf}
 use Rattle.case_text.specs.declared.CaseHead.{CaseHead}
 use Rattle.case_text.specs.Text.{countsOf, marksOf, readingRefusal}
-use Rattle.hex.specs.Digits.{digits}
 use Rattle.frame.specs.declared.FrameFields.{FrameFields}
-use Rattle.frame.specs.Frame.{frameLine, printed}
+use Rattle.frame.specs.Frame.{printed}
+use Rattle.frame.specs.WorkedLines.{p16Fields, p16Line}
+use Rattle.frame.proofs.FrameProof.{worked-lines}
 use Rattle.ground_risk_case.specs.Case.{fieldsOf, assessmentIn, outcomeOf}
-use Rattle.ground_risk_case.specs.Points.{P16Text, p16Fields, p16Line, P16Holds, WorkedPoint, aircraft, cell, mitigation, wholeCase, WorkedPointHolds, workedPoints, WorkedPointsHold}
+use Rattle.ground_risk_case.specs.Points.{P16Text, P16Holds, WorkedPoint, aircraft, cell, mitigation, wholeCase, WorkedPointHolds, workedPoints, WorkedPointsHold}
 
 -- what is shown of an assessment: the refusal, and the printed fields
 record Told : Type 0 where
@@ -50,8 +51,8 @@ p16-told t h =
     ∙ p16-assessment (countsOf t) (marksOf t) (h .map))
 
 p16-line : printed 0 p16Fields ≡ p16Line
-unfolding printed frameLine digits
-p16-line = refl
+unfolding printed
+p16-line = worked-lines .p16
 
 p16-holds : P16Holds
 p16-holds =

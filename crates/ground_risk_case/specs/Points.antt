@@ -2,15 +2,14 @@
 use mathlib.Core.Path.{_≡_}
 use mathlib.Core.List.{List, [], _∷_, _++_, map}
 use Prim.Native.Nat.{ℕ}
-use lib.IntN.{pos}
 use Rattle.arithmetic.specs.Each.{Each}
 use Rattle.sheet.specs.Points.{SheetPoint, SheetPointHolds, sheetPoints}
 use Rattle.footprint.specs.Points.{RowPoint, RowPointHolds, rowPoints, P16Map}
 use Rattle.risk_class.specs.Points.{FinalPoint, FinalPointHolds, finalPoints}
 use Rattle.case_text.specs.declared.CaseHead.{CaseHead}
 use Rattle.case_text.specs.Text.{headOf, marksOf, countsOf, readingRefusal}
-use Rattle.frame.specs.declared.FrameFields.{FrameFields}
-use Rattle.frame.specs.Frame.{frameLine, printed}
+use Rattle.frame.specs.Frame.{printed}
+use Rattle.frame.specs.WorkedLines.{p16Fields, p16Line}
 use Rattle.ground_risk_case.specs.Case.{fieldsOf, outcomeOf}
 
 -- P16's first line, `000003e800002710000009c400002710001000`
@@ -24,29 +23,7 @@ pub record P16Text (t : List ℕ) : Type 0 where
   pub head : headOf t ≡ p16Head
   pub map : P16Map (countsOf t) (marksOf t)
 
--- P16's output, `000000c7ea0000c7eb0100050000000000080504`: its fields and its bytes
-abbrev pub p16Fields : FrameFields
-p16Fields =
-    record {
-      low = 0xc7ea;
-      high = 0xc7eb;
-      column = 0x01;
-      flag = 0x00;
-      row = 0x05;
-      place = 0x0000;
-      people = 0x8;
-      intrinsic = 0x05;
-      «final_class» = pos 0x04;
-    }
-
-abbrev pub p16Line : List ℕ
-p16Line =
-    48 ∷ 48 ∷ 48 ∷ 48 ∷ 48 ∷ 48 ∷ 99 ∷ 55 ∷ 101 ∷ 97
-    ∷ 48 ∷ 48 ∷ 48 ∷ 48 ∷ 99 ∷ 55 ∷ 101 ∷ 98 ∷ 48 ∷ 49
-    ∷ 48 ∷ 48 ∷ 48 ∷ 53 ∷ 48 ∷ 48 ∷ 48 ∷ 48 ∷ 48 ∷ 48
-    ∷ 48 ∷ 48 ∷ 48 ∷ 48 ∷ 48 ∷ 56 ∷ 48 ∷ 53 ∷ 48 ∷ 52
-    ∷ 10 ∷ []
-
+-- the printed frame's fields and bytes are those of P16's output
 pub record P16Holds : Type 0 where
   pub refusal : (t : List ℕ) → P16Text t → outcomeOf t 4096 64 .refusal ≡ 0
   pub fields : (t : List ℕ) → P16Text t → fieldsOf (outcomeOf t 4096 64) ≡ p16Fields

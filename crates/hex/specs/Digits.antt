@@ -39,9 +39,12 @@ written [] = []
 written (f ∷ fs) = digits (f .0) (f .1) ++ written fs
 
 -- "one frame a line, each ended by byte 10 (decimal)"
+abbrev pub lineEndByte : ℕ
+lineEndByte = 10
+
 abbrev pub lineEnd : List ℕ
-lineEnd = 10 ∷ []
+lineEnd = lineEndByte ∷ []
 
 -- s is digits with a line end after them
 unfoldable pub isLine : List ℕ → Bool
-isLine s = every (λ i. isDigit (getD s i 0)) (length s - 1) && eqb (getD s (length s - 1) 0) 10
+isLine s = every (λ i. isDigit (getD s i 0)) (length s - 1) && eqb (getD s (length s - 1) 0) lineEndByte
