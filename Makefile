@@ -1,7 +1,7 @@
 # The library for C and Rust consoles: build, install, tests of the boundary, benchmark. The proofs are rt's (see .ci/run).
 #
 #   make                       the library, target/staticlib/libnuggetbay.a, and the program, target/bin/case
-#   make install PREFIX=DIR    library, header, pkg-config file and program in DIR (default /usr/local)
+#   make install PREFIX=DIR    library, header, pkg-config file, Rust package and program in DIR (default /usr/local)
 #   make test-boundary         the library's calls against the checker, under unreadable memory and under valgrind; both examples
 #   make bench                 the library against obvious and tuned Rust
 
@@ -35,11 +35,13 @@ $(MADE):
 	mkdir -p $@
 
 install: $(LIBRARY) $(PROGRAM)
-	install -d $(DESTDIR)$(PREFIX)/lib/pkgconfig $(DESTDIR)$(PREFIX)/include $(DESTDIR)$(PREFIX)/bin
+	install -d $(addprefix $(DESTDIR)$(PREFIX)/,lib/pkgconfig include bin share/nuggetbay/rust/src)
 	install -m 644 $(LIBRARY) $(DESTDIR)$(PREFIX)/lib/libnuggetbay.a
 	install -m 644 $(HEADER) $(DESTDIR)$(PREFIX)/include/nuggetbay.h
 	sed -e 's,@PREFIX@,$(abspath $(PREFIX)),' -e 's,@VERSION@,$(VERSION),' console/nuggetbay.pc.in \
 	    >$(DESTDIR)$(PREFIX)/lib/pkgconfig/nuggetbay.pc
+	install -m 644 console/rust/Cargo.toml console/rust/build.rs $(DESTDIR)$(PREFIX)/share/nuggetbay/rust
+	install -m 644 console/rust/src/*.rs $(DESTDIR)$(PREFIX)/share/nuggetbay/rust/src
 	# `case` is a word of the shell, so the installed program has a longer name
 	install -m 755 $(PROGRAM) $(DESTDIR)$(PREFIX)/bin/nuggetbay-case
 
@@ -76,26 +78,27 @@ test-faults: tools $(MADE)/boundary-faults $(CALLS)
 	    then echo "test-faults: fault u wasn't noticed"; exit 1; fi
 	@echo 'every fault was noticed: $(FAULTS) u'
 
-# what is installed serves the C example and the program
-test-install: export PREFIX = $(MADE)/installed
+# what is installed serves both examples and gives the program
+INSTALLED = $(MADE)/installed
+test-install: export PREFIX = $(INSTALLED)
 test-install: tools $(LIBRARY) $(PROGRAM) | $(MADE)
-	rm -rf $(MADE)/installed
+	rm -rf $(INSTALLED) $(MADE)/consumer
 	$(MAKE) --no-print-directory install >/dev/null
-	grep -qx 'prefix=$(abspath $(MADE)/installed)' $(MADE)/installed/lib/pkgconfig/nuggetbay.pc
-	$(CC) -std=c99 $(filter-out -std=%,$(CFLAGS)) console/examples/case.c -I$(MADE)/installed/include -L$(MADE)/installed/lib -lnuggetbay -o $(MADE)/case-c
+	grep -qx 'prefix=$(abspath $(INSTALLED))' $(INSTALLED)/lib/pkgconfig/nuggetbay.pc
+	$(CC) -std=c99 $(filter-out -std=%,$(CFLAGS)) console/examples/case.c -I$(INSTALLED)/include -L$(INSTALLED)/lib -lnuggetbay -o $(MADE)/case-c
+	mkdir -p $(MADE)/consumer/src
+	cp console/rust/examples/case.rs $(MADE)/consumer/src/main.rs
+	printf '[package]\nname = "consumer"\nedition = "2021"\n[dependencies]\nnuggetbay = { path = "../installed/share/nuggetbay/rust" }\n' >$(MADE)/consumer/Cargo.toml
+	cd $(MADE)/consumer && cargo build --offline --quiet
 	@for name in $(EXAMPLES); do \
-	    $(MADE)/case-c examples/$$name.case >$(MADE)/words-c; \
-	    cmp $(MADE)/words-c console/examples/$$name.words || exit 1; \
-	    $(MADE)/installed/bin/nuggetbay-case <examples/$$name.case | cmp - examples/$$name.frame || exit 1; done
-	@echo 'the installed library, header and program give the examples as stored'
+	    for example in $(MADE)/case-c $(MADE)/consumer/target/debug/consumer; do \
+	        $$example examples/$$name.case >$(MADE)/words; \
+	        cmp $(MADE)/words console/examples/$$name.words || exit 1; done; \
+	    $(INSTALLED)/bin/nuggetbay-case <examples/$$name.case | cmp - examples/$$name.frame || exit 1; done
+	@echo 'what is installed gives the examples as stored, from C, from Rust and by the program'
 
-test-rust: tools $(LIBRARY) | $(MADE)
-	$(CARGO) test --release --quiet --package nuggetbay
-	$(CARGO) build --release --quiet --package nuggetbay --example case
-	@for name in $(EXAMPLES); do \
-	    target/cargo/release/examples/case examples/$$name.case >$(MADE)/words-rust; \
-	    cmp $(MADE)/words-rust console/examples/$$name.words || exit 1; done
-	@echo 'the Rust example gives the examples as stored'
+test-rust: tools $(LIBRARY)
+	$(CARGO) test --release --quiet --package nuggetbay --test library
 
 # ---- the benchmark
 
