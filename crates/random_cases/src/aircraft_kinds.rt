@@ -47,10 +47,15 @@ pub(crate) fn flagged_calm(plain: RandomCase, i: u64) -> RandomCase {
     flagged_plain(calm(plain), i)
 }
 
+// A mass from 3 g less than the table's on, 1 g more after each sixteen cases.
+fn mass_near(mass: u32, i: u64) -> u64 {
+    difference_or_zero(mass as u64 + i / 16, 3)
+}
+
 pub(crate) fn area_limits(plain: RandomCase, i: u64) -> RandomCase {
     let entry = (i % 16) as usize;
     let aircraft = AREA_LIMITS[entry];
     let mut case = with_aircraft(calm(plain), aircraft);
-    case.mass = difference_or_zero(aircraft[1] as u64 + i / 16, 3);
+    case.mass = mass_near(aircraft[1], i);
     case
 }

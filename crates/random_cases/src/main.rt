@@ -71,10 +71,6 @@ fn print_random_case(
     requires { ⌜ length (now counts) ≡ 4097 ⌝ }
     requires { ⌜ length (now marks) ≡ 65 ⌝ }
     requires { ⌜ length (now frame) ≡ 64 ⌝ }
-    ensures { λ _. ⌜ length (now (text .exit)) ≡ 33960 ⌝ }
-    ensures { λ _. ⌜ length (now (counts .exit)) ≡ 4097 ⌝ }
-    ensures { λ _. ⌜ length (now (marks .exit)) ≡ 65 ⌝ }
-    ensures { λ _. ⌜ length (now (frame .exit)) ≡ 64 ⌝ }
 {
     let case = random_case(n);
     write_text(text, case);

@@ -1,7 +1,6 @@
 // Kinds 6 to 8, 19 and 23: the counts and the footprint.
 use crate::parts::RandomCase;
 use crate::random::Draw;
-use crate::random::Source;
 use crate::random::below;
 use crate::random::from_to;
 use crate::steps::ALL_ONES;
@@ -20,7 +19,7 @@ const ROW_DENSITIES: [u16; 5] = [5, 50, 500, 5000, 50000];
 const EDGE_COUNTS: [u64; 4] = [999999, 1000000, 1000001, 4294967295];
 
 // In the first fifty cases a cell area in which each density is a whole number of people.
-fn draw_boundary_area(s: Source, i: u64) -> Draw
+fn draw_boundary_area(s: u32, i: u64) -> Draw
     ensures { λ r. ⌜ r .value ≤ 20000000 ⌝ }
 {
     if i < 50 {
@@ -35,10 +34,10 @@ fn draw_boundary_area(s: Source, i: u64) -> Draw
 }
 
 // The least number of people in a cell that makes a density.
-fn people_at(density: u16, cell_area: u64) -> u64
-    requires { ⌜ cell_area ≤ 20000000 ⌝ }
+fn people_at(density: u16, area: u64) -> u64
+    requires { ⌜ area ≤ 20000000 ⌝ }
 {
-    (density as u64 * cell_area + 999999) / 1000000
+    (density as u64 * area + 999999) / 1000000
 }
 
 pub(crate) fn row_boundaries(plain: RandomCase, i: u64) -> RandomCase {
@@ -114,7 +113,7 @@ pub(crate) fn footprint_shapes(plain: RandomCase, i: u64) -> RandomCase {
     with_shape(case, i % 10, row.value, place.value)
 }
 
-fn with_counts_from(before: RandomCase, base: u64, spread: u64) -> RandomCase {
+fn with_counts_from(before: RandomCase, base: u32, spread: u64) -> RandomCase {
     let mut case = before;
     case.base = base;
     case.spread = spread;

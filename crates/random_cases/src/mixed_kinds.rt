@@ -1,7 +1,6 @@
 // Kinds 20 and 22: several things wrong, and any numbers.
 use crate::parts::RandomCase;
 use crate::random::Draw;
-use crate::random::Source;
 use crate::random::below;
 use crate::random::bits_32;
 use crate::steps::calm;
@@ -35,7 +34,7 @@ pub(crate) fn several_wrong(plain: RandomCase) -> RandomCase {
 }
 
 // Once in four times 32 bits, else the old value.
-fn sometimes_32_bits(s: Source, old: u64) -> Draw {
+fn sometimes_32_bits(s: u32, old: u64) -> Draw {
     let c = below(s, 4);
     if c.value == 0 {
         bits_32(c.next)
@@ -48,7 +47,7 @@ fn sometimes_32_bits(s: Source, old: u64) -> Draw {
 }
 
 // Once in four times a number below n, else the old value.
-fn sometimes_below(s: Source, n: u64, old: u64) -> Draw
+fn sometimes_below(s: u32, n: u64, old: u64) -> Draw
     requires { ⌜ 0 < n ⌝ }
 {
     let c = below(s, 4);

@@ -1,12 +1,11 @@
 // What a random case holds.
-use crate::random::Source;
 
 // The place of a single count that is put nowhere.
 pub(crate) const NO_PLACE: u64 = 4096;
 
 pub(crate) struct RandomCase {
     // the source after the draws that made the rest
-    pub(crate) source: Source,
+    pub(crate) source: u32,
     // line 1 of the case text
     pub(crate) dimension: u64,
     pub(crate) mass: u64,
@@ -20,7 +19,7 @@ pub(crate) struct RandomCase {
     pub(crate) row_marks: u64,
     pub(crate) drawn_rows: bool,
     // each count is base and a draw below spread; then single counts are put in
-    pub(crate) base: u64,
+    pub(crate) base: u32,
     pub(crate) spread: u64,
     pub(crate) place_1: u64,
     pub(crate) count_1: u64,

@@ -2,7 +2,6 @@
 use crate::parts::NO_PLACE;
 use crate::parts::RandomCase;
 use crate::random::Draw;
-use crate::random::Source;
 use crate::random::below;
 use crate::random::bits_64;
 use crate::random::from_to;
@@ -10,7 +9,7 @@ use crate::steps::offered_word;
 
 const SPREADS: [u64; 7] = [1, 2, 8, 50, 500, 5000, 65536];
 
-fn draw_dimension(s: Source) -> Draw {
+fn draw_dimension(s: u32) -> Draw {
     let c = below(s, 4);
     if c.value == 0 {
         from_to(c.next, 50, 1000)
@@ -23,7 +22,7 @@ fn draw_dimension(s: Source) -> Draw {
     }
 }
 
-fn draw_mass(s: Source) -> Draw {
+fn draw_mass(s: u32) -> Draw {
     let c = below(s, 4);
     if c.value == 0 {
         from_to(c.next, 50, 1000)
@@ -36,7 +35,7 @@ fn draw_mass(s: Source) -> Draw {
     }
 }
 
-fn draw_speed(s: Source) -> Draw {
+fn draw_speed(s: u32) -> Draw {
     let c = below(s, 4);
     if c.value == 0 {
         from_to(c.next, 0, 2500)
@@ -49,7 +48,7 @@ fn draw_speed(s: Source) -> Draw {
     }
 }
 
-fn draw_cell_area(s: Source) -> Draw {
+fn draw_cell_area(s: u32) -> Draw {
     let c = below(s, 3);
     if c.value == 0 {
         from_to(c.next, 100, 10000)
@@ -60,7 +59,7 @@ fn draw_cell_area(s: Source) -> Draw {
     }
 }
 
-fn draw_mark(s: Source) -> Draw {
+fn draw_mark(s: u32) -> Draw {
     let c = below(s, 4);
     if c.value == 0 {
         Draw {
@@ -75,7 +74,7 @@ fn draw_mark(s: Source) -> Draw {
     }
 }
 
-fn draw_word(s: Source) -> Draw {
+fn draw_word(s: u32) -> Draw {
     let a = below(s, 3);
     let b = below(a.next, 3);
     let c = below(b.next, 2);
@@ -86,7 +85,7 @@ fn draw_word(s: Source) -> Draw {
     }
 }
 
-fn draw_spread(s: Source) -> Draw {
+fn draw_spread(s: u32) -> Draw {
     let c = below(s, 7);
     let entry = c.value as usize;
     Draw {
@@ -95,7 +94,7 @@ fn draw_spread(s: Source) -> Draw {
     }
 }
 
-pub(crate) fn plain_case(s: Source) -> RandomCase {
+pub(crate) fn plain_case(s: u32) -> RandomCase {
     let dimension = draw_dimension(s);
     let mass = draw_mass(dimension.next);
     let speed = draw_speed(mass.next);

@@ -1,37 +1,31 @@
-// The random source: draws, each with the source after it.
+// The random source. Its state is a number of 32 bits, s.
 ghost use Prim.Native.Nat.{_<_, _≤_};
 
-// The state of the source, 32 bits.
-pub(crate) struct Source {
-    pub(crate) x: u32,
-}
-
+// A draw, and the state of the source after it.
 pub(crate) struct Draw {
     pub(crate) value: u64,
-    pub(crate) next: Source,
+    pub(crate) next: u32,
 }
 
-// The source that a case number starts from.
-pub(crate) fn source_of(n: u32) -> Source {
-    Source {
-        x: (n as u64 * 2654435761 % 4294967296) as u32,
-    }
+// The state that a case number starts from.
+pub(crate) fn source_of(n: u32) -> u32 {
+    (n as u64 * 2654435761 % 4294967296) as u32
 }
 
 // A number below n.
-pub(crate) fn below(s: Source, n: u64) -> Draw
+pub(crate) fn below(s: u32, n: u64) -> Draw
     requires { ⌜ 0 < n ⌝ }
-    ensures { λ r. ⌜ r .value < n ⌝ }
+    ensures { λ r. ⌜ (r .value < n) × (r .value < 65536) ⌝ }
 {
-    let x = (s.x as u64 * 1664525 + 1013904223) % 4294967296;
+    let x = (s as u64 * 1664525 + 1013904223) % 4294967296;
     Draw {
         value: x / 65536 % n,
-        next: Source { x: x as u32 },
+        next: x as u32,
     }
 }
 
 // 32 bits, the higher half first.
-pub(crate) fn bits_32(s: Source) -> Draw
+pub(crate) fn bits_32(s: u32) -> Draw
     ensures { λ r. ⌜ r .value < 4294967296 ⌝ }
 {
     let high = below(s, 65536);
@@ -43,7 +37,7 @@ pub(crate) fn bits_32(s: Source) -> Draw
 }
 
 // 64 bits, the higher half first.
-pub(crate) fn bits_64(s: Source) -> Draw {
+pub(crate) fn bits_64(s: u32) -> Draw {
     let high = bits_32(s);
     let low = bits_32(high.next);
     Draw {
@@ -53,7 +47,7 @@ pub(crate) fn bits_64(s: Source) -> Draw {
 }
 
 // A number from a to b.
-pub(crate) fn from_to(s: Source, a: u64, b: u64) -> Draw
+pub(crate) fn from_to(s: u32, a: u64, b: u64) -> Draw
     requires { ⌜ a ≤ b ⌝ }
     requires { ⌜ b < 4294967296 ⌝ }
     ensures { λ r. ⌜ r .value ≤ b ⌝ }

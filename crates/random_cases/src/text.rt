@@ -1,7 +1,6 @@
 // The text of a random case.
 use crate::parts::RandomCase;
 use crate::random::Draw;
-use crate::random::Source;
 use crate::random::below;
 use crate::random::bits_64;
 use case_text::COUNTS_LENGTH;
@@ -28,27 +27,29 @@ const COUNTS: usize = 1127;
 const COUNT_LINE: usize = 513;
 
 fn write_number(text: &mut [u8], at: usize, digits: usize, value: u64)
-    requires { ⌜ at + digits ≤ length (now text) ⌝ }
-    ensures { λ _. ⌜ length (now (text .exit)) ≡ length (now (text .entry)) ⌝ }
+    requires { ⌜ length (now text) ≡ 33960 ⌝ }
+    requires { ⌜ at + digits ≤ 33960 ⌝ }
+    ensures { λ _. ⌜ length (now (text .exit)) ≡ 33960 ⌝ }
 {
     write_digits(&mut text[at..at + digits], value);
 }
 
+// Line 1. The line end is written first: the length after a call is what the proof finds by itself.
 fn write_head(text: &mut [u8], case: RandomCase)
     requires { ⌜ length (now text) ≡ 33960 ⌝ }
     ensures { λ _. ⌜ length (now (text .exit)) ≡ 33960 ⌝ }
 {
+    text[HEAD_END] = LINE_END;
     write_number(text, 0, 8, case.dimension);
     write_number(text, 8, 8, case.mass);
     write_number(text, 16, 8, case.speed);
     write_number(text, 24, 8, case.cell_area);
     write_number(text, 32, 2, case.mark);
     write_number(text, 34, 4, case.word);
-    text[HEAD_END] = LINE_END;
 }
 
 // The marks of a footprint row.
-fn draw_row(case: RandomCase, s: Source, row: u64) -> Draw {
+fn draw_row(case: RandomCase, s: u32, row: u64) -> Draw {
     if case.drawn_rows {
         bits_64(s)
     } else if (case.first_row <= row) & (row <= case.last_row) {
@@ -62,7 +63,7 @@ fn draw_row(case: RandomCase, s: Source, row: u64) -> Draw {
 }
 
 // The answer is the source after the rows.
-fn write_rows(text: &mut [u8], case: RandomCase) -> Source
+fn write_rows(text: &mut [u8], case: RandomCase) -> u32
     requires { ⌜ length (now text) ≡ 33960 ⌝ }
     ensures { λ _. ⌜ length (now (text .exit)) ≡ 33960 ⌝ }
 {
@@ -80,18 +81,16 @@ fn write_rows(text: &mut [u8], case: RandomCase) -> Source
 }
 
 // Base and a draw below spread. With spread 1 each draw is 0, and is left out.
-fn draw_count(s: Source, base: u64, spread: u64) -> Draw
-    requires { ⌜ base < 4294967296 ⌝ }
-{
+fn draw_count(s: u32, base: u32, spread: u64) -> Draw {
     if spread <= 1 {
         return Draw {
-            value: base,
+            value: base as u64,
             next: s,
         };
     }
     let d = below(s, spread);
     Draw {
-        value: (base + d.value),
+        value: base as u64 + d.value,
         next: d.next,
     }
 }
@@ -110,7 +109,7 @@ fn write_count(text: &mut [u8], place: usize, count: u64)
     }
 }
 
-fn write_counts(text: &mut [u8], s: Source, base: u64, spread: u64)
+fn write_counts(text: &mut [u8], s: u32, base: u32, spread: u64)
     requires { ⌜ length (now text) ≡ 33960 ⌝ }
     ensures { λ _. ⌜ length (now (text .exit)) ≡ 33960 ⌝ }
 {

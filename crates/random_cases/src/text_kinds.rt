@@ -1,7 +1,6 @@
 // Kinds 14 to 18 and 21: damaged texts, and lengths.
 use crate::parts::RandomCase;
 use crate::random::Draw;
-use crate::random::Source;
 use crate::random::below;
 ghost use Prim.Native.Nat.{_<_};
 
@@ -30,7 +29,7 @@ const NO_LINE_ENDS: [u64; 19] = [
 ];
 
 // The place of a digit in line 1, in the footprint or in the counts.
-fn draw_digit_place(s: Source, turn: u64) -> Draw {
+fn draw_digit_place(s: u32, turn: u64) -> Draw {
     if turn == 0 {
         return below(s, 38);
     }
