@@ -33,14 +33,28 @@ fn with_edge(before: RandomCase, edge: [u32; 2]) -> RandomCase {
     case
 }
 
-pub(crate) fn range_edges(plain: RandomCase, i: u64) -> RandomCase {
+// Entries are read here, apart from the case, since the check of a function grows with the tables and with the fields that it has.
+fn edge_of(i: u64) -> [u32; 2] {
     let entry = (i % 36) as usize;
-    with_edge(with_column(calm(plain), 1), EDGES[entry])
+    EDGES[entry]
+}
+
+fn flagged_of(i: u64) -> [u32; 3] {
+    let entry = (i % 48) as usize;
+    FLAGGED[entry]
+}
+
+fn area_limit_of(i: u64) -> [u32; 3] {
+    let entry = (i % 16) as usize;
+    AREA_LIMITS[entry]
+}
+
+pub(crate) fn range_edges(plain: RandomCase, i: u64) -> RandomCase {
+    with_edge(with_column(calm(plain), 1), edge_of(i))
 }
 
 pub(crate) fn flagged_plain(plain: RandomCase, i: u64) -> RandomCase {
-    let entry = (i % 48) as usize;
-    with_aircraft(plain, FLAGGED[entry])
+    with_aircraft(plain, flagged_of(i))
 }
 
 pub(crate) fn flagged_calm(plain: RandomCase, i: u64) -> RandomCase {
@@ -53,8 +67,7 @@ fn mass_near(mass: u32, i: u64) -> u64 {
 }
 
 pub(crate) fn area_limits(plain: RandomCase, i: u64) -> RandomCase {
-    let entry = (i % 16) as usize;
-    let aircraft = AREA_LIMITS[entry];
+    let aircraft = area_limit_of(i);
     let mut case = with_aircraft(calm(plain), aircraft);
     case.mass = mass_near(aircraft[1], i);
     case

@@ -106,23 +106,16 @@ pub(crate) fn text_lengths(plain: RandomCase, i: u64) -> RandomCase {
     case
 }
 
-// Lengths of the count and the footprint buffer.
-const BUFFER_LENGTHS: [[u64; 2]; 8] = [
-    [0, 64],
-    [4095, 64],
-    [4097, 64],
-    [4096, 0],
-    [4096, 63],
-    [4096, 65],
-    [4095, 65],
-    [4096, 64],
-];
+// Lengths of the count buffer, and with each the length of the footprint buffer.
+const COUNTS_LENGTHS: [u64; 8] = [0, 4095, 4097, 4096, 4096, 4096, 4095, 4096];
+
+const FOOTPRINT_LENGTHS: [u64; 8] = [64, 64, 64, 0, 63, 65, 65, 64];
 
 pub(crate) fn buffer_lengths(plain: RandomCase, i: u64) -> RandomCase {
     let mut case = plain;
     let entry = (i % 8) as usize;
-    case.counts_length = BUFFER_LENGTHS[entry][0];
-    case.footprint_length = BUFFER_LENGTHS[entry][1];
+    case.counts_length = COUNTS_LENGTHS[entry];
+    case.footprint_length = FOOTPRINT_LENGTHS[entry];
     if 40 <= i {
         case.damage_place = 33958;
         case.damage_byte = 48;
