@@ -4,11 +4,11 @@ use crate::steps::calm;
 use crate::steps::with_aircraft;
 use crate::steps::with_column;
 use crate::tables::AREA_LIMITS;
-use crate::tables::EDGE_OF_DIMENSION;
-use crate::tables::EDGE_OF_MASS;
-use crate::tables::EDGE_OF_SPEED;
+use crate::tables::CELL_AREA_EDGES;
 use crate::tables::EDGES;
 use crate::tables::FLAGGED;
+use crate::tables::MASS_EDGES;
+use crate::tables::SPEED_EDGES;
 use arithmetic::difference_or_zero;
 
 pub(crate) fn drawn_footprint(plain: RandomCase) -> RandomCase {
@@ -17,15 +17,13 @@ pub(crate) fn drawn_footprint(plain: RandomCase) -> RandomCase {
     case
 }
 
-fn with_edge(before: RandomCase, edge: [u32; 2]) -> RandomCase {
+fn with_edge(before: RandomCase, entry: u64, value: u64) -> RandomCase {
     let mut case = before;
-    let field = edge[0];
-    let value = edge[1] as u64;
-    if field == EDGE_OF_DIMENSION {
+    if entry < MASS_EDGES {
         case.dimension = value;
-    } else if field == EDGE_OF_MASS {
+    } else if entry < SPEED_EDGES {
         case.mass = value;
-    } else if field == EDGE_OF_SPEED {
+    } else if entry < CELL_AREA_EDGES {
         case.speed = value;
     } else {
         case.cell_area = value;
@@ -33,12 +31,12 @@ fn with_edge(before: RandomCase, edge: [u32; 2]) -> RandomCase {
     case
 }
 
-// Entries are read here, apart from the case, since the check of a function grows with the tables and with the fields that it has.
-fn edge_of(i: u64) -> [u32; 2] {
+pub(crate) fn range_edges(plain: RandomCase, i: u64) -> RandomCase {
     let entry = (i % 36) as usize;
-    EDGES[entry]
+    with_edge(with_column(calm(plain), 1), i % 36, EDGES[entry])
 }
 
+// Entries of a large table are read apart from the case: the check of a function grows with the tables and the fields that it has.
 fn flagged_of(i: u64) -> [u32; 3] {
     let entry = (i % 48) as usize;
     FLAGGED[entry]
@@ -47,10 +45,6 @@ fn flagged_of(i: u64) -> [u32; 3] {
 fn area_limit_of(i: u64) -> [u32; 3] {
     let entry = (i % 16) as usize;
     AREA_LIMITS[entry]
-}
-
-pub(crate) fn range_edges(plain: RandomCase, i: u64) -> RandomCase {
-    with_edge(with_column(calm(plain), 1), edge_of(i))
 }
 
 pub(crate) fn flagged_plain(plain: RandomCase, i: u64) -> RandomCase {

@@ -2,6 +2,7 @@
 mod aircraft_kinds;
 mod class_kinds;
 mod kinds;
+mod layout;
 mod map_kinds;
 mod mixed_kinds;
 mod parts;
@@ -14,6 +15,7 @@ mod text_kinds;
 
 use case_text::COUNTS_LENGTH;
 use case_text::MARKS_LENGTH;
+use case_text::TEXT_LENGTH;
 use frame::FRAME_LENGTH;
 use frame::REFUSAL_LENGTH;
 use ground_risk_case::print_case;
@@ -22,7 +24,6 @@ use libc::STDOUT_FILENO;
 use parts::RandomCase;
 use plain::plain_case;
 use random::source_of;
-use text::ROOM;
 use text::write_text;
 ghost use mathlib.Core.Path.{_≡_};
 ghost use Prim.Native.Nat.{_≤_};
@@ -88,7 +89,7 @@ fn print_random_case(
 }
 
 fn main() {
-    let mut text = [0u8; ROOM];
+    let mut text = [0u8; TEXT_LENGTH + 1];
     let mut counts = [0u32; COUNTS_LENGTH + 1];
     let mut marks = [0u64; MARKS_LENGTH + 1];
     let mut frame = [0u8; FRAME_ROOM];

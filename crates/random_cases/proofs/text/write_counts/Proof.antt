@@ -1,8 +1,8 @@
--- The text keeps its length, and each place written is within it.
-use borrow.Author.Needs.{needs}
+-- The text keeps its length while its counts are written.
 use Prim.Native.Nat.{_≤_, _-_}
 use mathlib.Core.Path.{_≡_}
 use lib.ListN.{length}
+use borrow.Author.Needs.{needs}
 use Rattle.random_cases.proofs.text.write_counts.Statement.{statement}
 use Rattle.random_cases.proofs.text.write_counts.Tie as tie
 
