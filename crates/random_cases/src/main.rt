@@ -28,6 +28,7 @@ use text::write_text;
 ghost use mathlib.Core.Path.{_≡_};
 ghost use Prim.Native.Nat.{_≤_};
 ghost use lib.ListN.{length};
+ghost use Rattle.random_cases.specs.Buffers.{textRoom, countsRoom, footprintRoom, frameRoom};
 
 const CASES: u32 = 2400;
 
@@ -49,7 +50,7 @@ fn at_most(n: u64, most: usize) -> usize
 }
 
 fn write_line(refusal: u8, frame: &[u8])
-    requires { ⌜ length (now frame) ≡ 64 ⌝ }
+    requires { ⌜ length (now frame) ≡ frameRoom ⌝ }
 {
     if refusal == 0 {
         io::write_all(STDOUT_FILENO, &frame[..FRAME_LENGTH]);
@@ -68,10 +69,10 @@ fn print_random_case(
     marks: &mut [u64],
     frame: &mut [u8],
 )
-    requires { ⌜ length (now text) ≡ 33960 ⌝ }
-    requires { ⌜ length (now counts) ≡ 4097 ⌝ }
-    requires { ⌜ length (now marks) ≡ 65 ⌝ }
-    requires { ⌜ length (now frame) ≡ 64 ⌝ }
+    requires { ⌜ length (now text) ≡ textRoom ⌝ }
+    requires { ⌜ length (now counts) ≡ countsRoom ⌝ }
+    requires { ⌜ length (now marks) ≡ footprintRoom ⌝ }
+    requires { ⌜ length (now frame) ≡ frameRoom ⌝ }
 {
     let case = random_case(n);
     write_text(text, case);

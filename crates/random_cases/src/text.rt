@@ -15,11 +15,12 @@ use hex::write_digits;
 ghost use mathlib.Core.Path.{_≡_};
 ghost use Prim.Native.Nat.{_+_, _≤_, _<_};
 ghost use lib.ListN.{length};
+ghost use Rattle.random_cases.specs.Buffers.{textRoom};
 
 fn write_number(text: &mut [u8], at: u64, digits: u64, value: u64)
-    requires { ⌜ length (now text) ≡ 33960 ⌝ }
-    requires { ⌜ at + digits ≤ 33960 ⌝ }
-    ensures { λ _. ⌜ length (now (text .exit)) ≡ 33960 ⌝ }
+    requires { ⌜ length (now text) ≡ textRoom ⌝ }
+    requires { ⌜ at + digits ≤ textRoom ⌝ }
+    ensures { λ _. ⌜ length (now (text .exit)) ≡ textRoom ⌝ }
 {
     let start = at as usize;
     let end = (at + digits) as usize;
@@ -27,17 +28,17 @@ fn write_number(text: &mut [u8], at: u64, digits: u64, value: u64)
 }
 
 fn write_byte(text: &mut [u8], at: u64, byte: u8)
-    requires { ⌜ length (now text) ≡ 33960 ⌝ }
-    requires { ⌜ at < 33960 ⌝ }
-    ensures { λ _. ⌜ length (now (text .exit)) ≡ 33960 ⌝ }
+    requires { ⌜ length (now text) ≡ textRoom ⌝ }
+    requires { ⌜ at < textRoom ⌝ }
+    ensures { λ _. ⌜ length (now (text .exit)) ≡ textRoom ⌝ }
 {
     text[at as usize] = byte;
 }
 
 // Line 1.
 fn write_head(text: &mut [u8], case: RandomCase)
-    requires { ⌜ length (now text) ≡ 33960 ⌝ }
-    ensures { λ _. ⌜ length (now (text .exit)) ≡ 33960 ⌝ }
+    requires { ⌜ length (now text) ≡ textRoom ⌝ }
+    ensures { λ _. ⌜ length (now (text .exit)) ≡ textRoom ⌝ }
 {
     write_number(text, 0, 8, case.dimension);
     write_number(text, 8, 8, case.mass);
@@ -64,8 +65,8 @@ fn draw_row(case: RandomCase, s: u32, row: u64) -> Draw {
 
 // The answer is the source after the rows.
 fn write_rows(text: &mut [u8], case: RandomCase) -> u32
-    requires { ⌜ length (now text) ≡ 33960 ⌝ }
-    ensures { λ _. ⌜ length (now (text .exit)) ≡ 33960 ⌝ }
+    requires { ⌜ length (now text) ≡ textRoom ⌝ }
+    ensures { λ _. ⌜ length (now (text .exit)) ≡ textRoom ⌝ }
 {
     let mut source = case.source;
     let mut row = 0;
@@ -96,8 +97,8 @@ fn draw_count(s: u32, base: u32, spread: u64) -> Draw {
 
 // A count at a place of the map; nothing where it has no such place.
 fn write_count(text: &mut [u8], place: u64, count: u64)
-    requires { ⌜ length (now text) ≡ 33960 ⌝ }
-    ensures { λ _. ⌜ length (now (text .exit)) ≡ 33960 ⌝ }
+    requires { ⌜ length (now text) ≡ textRoom ⌝ }
+    ensures { λ _. ⌜ length (now (text .exit)) ≡ textRoom ⌝ }
 {
     if place < CELLS {
         write_number(text, count_place(place / 64, 8 * (place % 64)), 8, count);
@@ -105,8 +106,8 @@ fn write_count(text: &mut [u8], place: u64, count: u64)
 }
 
 fn write_counts(text: &mut [u8], s: u32, base: u32, spread: u64)
-    requires { ⌜ length (now text) ≡ 33960 ⌝ }
-    ensures { λ _. ⌜ length (now (text .exit)) ≡ 33960 ⌝ }
+    requires { ⌜ length (now text) ≡ textRoom ⌝ }
+    ensures { λ _. ⌜ length (now (text .exit)) ≡ textRoom ⌝ }
 {
     let mut source = s;
     let mut place = 0;
@@ -119,8 +120,8 @@ fn write_counts(text: &mut [u8], s: u32, base: u32, spread: u64)
 }
 
 fn write_count_line_ends(text: &mut [u8])
-    requires { ⌜ length (now text) ≡ 33960 ⌝ }
-    ensures { λ _. ⌜ length (now (text .exit)) ≡ 33960 ⌝ }
+    requires { ⌜ length (now text) ≡ textRoom ⌝ }
+    ensures { λ _. ⌜ length (now (text .exit)) ≡ textRoom ⌝ }
 {
     let mut row = 0;
     while row < ROWS {
@@ -130,8 +131,8 @@ fn write_count_line_ends(text: &mut [u8])
 }
 
 fn damage(text: &mut [u8], place: u64, byte: u64)
-    requires { ⌜ length (now text) ≡ 33960 ⌝ }
-    ensures { λ _. ⌜ length (now (text .exit)) ≡ 33960 ⌝ }
+    requires { ⌜ length (now text) ≡ textRoom ⌝ }
+    ensures { λ _. ⌜ length (now (text .exit)) ≡ textRoom ⌝ }
 {
     if place < TEXT_ROOM {
         write_byte(text, place, (byte % 256) as u8);
@@ -140,8 +141,8 @@ fn damage(text: &mut [u8], place: u64, byte: u64)
 
 // The text of the case, one more line end after it, and the damage.
 pub(crate) fn write_text(text: &mut [u8], case: RandomCase)
-    requires { ⌜ length (now text) ≡ 33960 ⌝ }
-    ensures { λ _. ⌜ length (now (text .exit)) ≡ 33960 ⌝ }
+    requires { ⌜ length (now text) ≡ textRoom ⌝ }
+    ensures { λ _. ⌜ length (now (text .exit)) ≡ textRoom ⌝ }
 {
     write_head(text, case);
     let source = write_rows(text, case);

@@ -2,12 +2,13 @@
 use Prim.Native.Nat.{_≤_, _-_}
 use mathlib.Core.Path.{_≡_}
 use lib.ListN.{length}
+use Rattle.random_cases.specs.Buffers.{textRoom}
 use borrow.Author.Needs.{needs}
 use Rattle.random_cases.proofs.text.write_rows.Statement.{statement}
 use Rattle.random_cases.proofs.text.write_rows.Tie as tie
 
 abbrev Inv-loop : tie.InvT-loop
-Inv-loop text₀ case source₀ row₀ text source row = (row ≤ 64) × (length text ≡ 33960)
+Inv-loop text₀ case source₀ row₀ text source row = (row ≤ 64) × (length text ≡ textRoom)
 
 abbrev μ-loop : tie.MeasureT-loop
 μ-loop text₀ case source₀ row₀ text source row = 64 - row
