@@ -1,11 +1,11 @@
 -- What a frame tells that was printed with no refusal, and that the answer of a case is shown.
 use mathlib.Core.Path.{_≡_, refl, sym, ap, _∙_, subst}
-use mathlib.Core.Bool.{Bool, true, false, cond, not, _||_}
+use mathlib.Core.Bool.{false}
 use mathlib.Core.List.{List}
 use Prim.Native.Nat.{ℕ, _≤_}
 use native.Mathlib.Omega.{arith}
-use borrow.Author.Tests.{eq-eqb, le-ltb, ltb-false, eqb-true, eqb-false}
-use lib.Dec.{ltb, eqb, leb→le, lit≤}
+use borrow.Author.Tests.{eq-eqb, ltb-false}
+use lib.Dec.{ltb, eqb, leb→le}
 use lib.IntN.{ℤ, pos, negsuc}
 use lib.ListN.{length}
 use lib.Signed.{_≤ℤ_}
@@ -28,18 +28,16 @@ use Rattle.assessment.specs.declared.Assessment.{Assessment}
 use Rattle.assessment.specs.Working.{Working, given}
 use Rattle.assessment.specs.Assessment.{refusedAssessment, AssessmentParts}
 use Rattle.assessment.specs.Demand3.{Demand3}
-use Rattle.assessment.proofs.GivenOrZero.{assessment-is-given-or-zero}
 use Rattle.assessment.proofs.Parts.{assessment-parts}
 use Rattle.assessment.proofs.Demand3Holds.{demand-3}
-use Rattle.case_text.specs.Layout.{rows, cells, textLength}
-use Rattle.case_text.specs.Text.{isText, headOf, marksOf, countsOf, readingRefusal}
+use Rattle.case_text.specs.Text.{headOf, marksOf, countsOf, readingRefusal}
 use Rattle.frame.specs.declared.FrameFields.{FrameFields}
 use Rattle.frame.specs.Layout.{frameLength}
 use Rattle.frame.specs.Frame.{framed}
 use Rattle.frame.specs.FrameLaw.{refusalIn, fieldsIn, ClassFits, FrameFits, Shows}
 use Rattle.frame.proofs.FrameProof.{frame-law}
 use Rattle.ground_risk_case.specs.Case.{fieldsOf, assessmentIn, outcomeOf, caseAnswer, frameLeft}
-use Rattle.ground_risk_case.specs.EndToEnd.{sheetIn, footprintIn, exactColumnIn, ClassesShown, ClassesNotHigher, FrameTells, EndToEnd, AnswerShown}
+use Rattle.ground_risk_case.specs.EndToEnd.{sheetIn, footprintIn, exactColumnIn, ClassesShown, ClassesNotHigher, FrameTells, EndToEnd}
 
 -- a final class is told by its byte
 class-fits : (z : ℤ) → negsuc 0 ≤ℤ z → z ≤ℤ pos 7 → ClassFits z
@@ -161,47 +159,3 @@ end-to-end t counts marks frame h = told
       ap refusalIn left-is ∙ shows .accepted,
       subst (λ (f : FrameFields). FrameTells t f) (sym (ap fieldsIn left-is ∙ shows .fields)) (tells t none),
     )
-
-module _ (t : List ℕ) (counts marks : ℕ) where
-  either : (b : Bool) (x y : Assessment) → x .refusal ≤ 14 → y .refusal ≤ 14 → cond b x y .refusal ≤ 14
-  either true x y h k = h
-  either false x y h k = k
-
-  assessment-listed : assessmentIn t .refusal ≤ 14
-  unfolding assessmentIn
-  assessment-listed =
-      omega (arith, assessment-is-given-or-zero (headOf t .dimension) (headOf t .mass) (headOf t .speed) (countsOf t) (marksOf t) (headOf t .«cell_area») (headOf t .controlled) (headOf t .word) .listed)
-
-  numbers : (a b d : Bool) → cond a 13 (cond b 5 (cond d 14 0)) ≤ 14
-  numbers true b d = lit≤ tt
-  numbers false true d = lit≤ tt
-  numbers false false true = lit≤ tt
-  numbers false false false = lit≤ tt
-
-  reading-listed : readingRefusal t counts marks ≤ 14
-  unfolding readingRefusal
-  reading-listed = numbers (not (eqb (length t) textLength)) (not (eqb counts cells) || not (eqb marks rows)) (not (isText t))
-
-  outcome-listed : outcomeOf t counts marks .refusal ≤ 14
-  unfolding outcomeOf
-  outcome-listed =
-      either (eqb (readingRefusal t counts marks) 0) (assessmentIn t) (refusedAssessment (readingRefusal t counts marks)) assessment-listed reading-listed
-
-  pub answer-shown : (frame : List ℕ) → AnswerShown t counts marks frame
-  unfolding caseAnswer frameLeft
-  answer-shown frame = record {
-    listed = cond-le (ltb (length frame) frameLength) (lit≤ tt) (omega (arith, outcome-listed));
-    shown = λ long. by-test long (eqb (outcomeOf t counts marks .refusal) 0) refl;
-  }
-    where
-      answer-is : frameLength ≤ length frame → caseAnswer t counts marks (length frame) ≡ outcomeOf t counts marks .refusal
-      answer-is long = simp (le-ltb (length frame) frameLength long)
-
-      by-test : frameLength ≤ length frame → (b : Bool) → eqb (outcomeOf t counts marks .refusal) 0 ≡ b →
-          refusalIn (frameLeft t counts marks frame) ≡ caseAnswer t counts marks (length frame)
-      by-test long true e =
-          let none : caseAnswer t counts marks (length frame) ≡ 0 = answer-is long ∙ eqb-true _ 0 e
-          in end-to-end t counts marks frame none .0 ∙ sym none
-      by-test long false e =
-          frame-law .refusal-shown (outcomeOf t counts marks .refusal) (fieldsOf (outcomeOf t counts marks)) frame long (eqb-false _ 0 e) (omega (arith, outcome-listed))
-          ∙ sym (answer-is long)
