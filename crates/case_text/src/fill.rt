@@ -5,7 +5,6 @@ use crate::layout::COLUMNS;
 use crate::layout::CONTROLLED;
 use crate::layout::COUNT_DIGITS;
 use crate::layout::COUNT_LINE;
-use crate::layout::COUNT_WIDTH;
 use crate::layout::COUNTS;
 use crate::layout::DIMENSION;
 use crate::layout::HEAD_DIGITS;
@@ -20,15 +19,20 @@ use hex::number_of_eight;
 use hex::number_of_four;
 use hex::number_of_sixteen;
 use hex::number_of_two;
-use hex::number_of_word;
+use hex::number_of_words;
 use hex::word;
 ghost use mathlib.Core.Path.{_≡_};
 ghost use Prim.Native.Nat.{_+_, _*_};
 ghost use lib.ListN.{length, getD};
-ghost use Rattle.arithmetic.specs.Lists.{tabulate, part};
-ghost use Rattle.hex.specs.Words.{wordOf, numberOfWord};
-ghost use Rattle.case_text.specs.Layout.{columns, cells, rows, countWidth, countDigits, textLength};
+ghost use Rattle.arithmetic.specs.Lists.{tabulate};
+ghost use Rattle.hex.specs.Words.{wordAt, numberOfWords};
+ghost use Rattle.case_text.specs.Layout.{columns, cells, rows, countDigits, textLength};
 ghost use Rattle.case_text.specs.Text.{headOf, marksOf, rowOf, countsOf};
+
+// The digits of a word, and the words of a line of counts.
+const WORD_DIGITS: usize = 4;
+
+const WORDS: usize = 2 * COLUMNS;
 
 pub(crate) fn head_of(text: &[u8]) -> CaseHead
     requires { ⌜ length (now text) ≡ textLength ⌝ }
@@ -56,27 +60,27 @@ pub(crate) fn fill_marks(text: &[u8], marks: &mut [u64])
     }
 }
 
-// Each eight bytes of a line as one number: a copy.
-fn words_of(line: &[u8], words: &mut [u64])
-    requires { ⌜ (length (now line) ≡ countDigits) × (length (now words) ≡ columns) ⌝ }
-    ensures { λ _. ⌜ now (words .exit) ≡ tabulate (λ k. wordOf (part (now (line .entry)) (countWidth * k) (countWidth * k + countWidth))) columns ⌝ }
+// Each four bytes of a line as one number: a copy.
+fn words_of(line: &[u8], words: &mut [u32])
+    requires { ⌜ (length (now line) ≡ countDigits) × (length (now words) ≡ 2 * columns) ⌝ }
+    ensures { λ _. ⌜ now (words .exit) ≡ tabulate (λ i. wordAt (now (line .entry)) (4 * i)) (2 * columns) ⌝ }
 {
-    let mut k = 0;
-    while k < COLUMNS {
-        let at = COUNT_WIDTH * k;
-        words[k] = word(&line[at..at + COUNT_WIDTH]);
-        k += 1;
+    let mut i = 0;
+    while i < WORDS {
+        let at = WORD_DIGITS * i;
+        words[i] = word(&line[at..at + WORD_DIGITS]);
+        i += 1;
     }
 }
 
-// The number of each word: vectorised, unlike a loop that also makes the words.
-fn fill_words(words: &[u64], row: &mut [u32])
-    requires { ⌜ (length (now words) ≡ columns) × (length (now row) ≡ columns) ⌝ }
-    ensures { λ _. ⌜ now (row .exit) ≡ tabulate (λ k. numberOfWord (getD (now (words .entry)) k 0)) columns ⌝ }
+// The count of each two words: vectorised, unlike a loop that also makes the words.
+fn fill_words(words: &[u32], row: &mut [u32])
+    requires { ⌜ (length (now words) ≡ 2 * columns) × (length (now row) ≡ columns) ⌝ }
+    ensures { λ _. ⌜ now (row .exit) ≡ tabulate (λ k. numberOfWords (getD (now (words .entry)) (2 * k) 0) (getD (now (words .entry)) (2 * k + 1) 0)) columns ⌝ }
 {
     let mut k = 0;
     while k < COLUMNS {
-        row[k] = number_of_word(words[k]);
+        row[k] = number_of_words(words[2 * k], words[2 * k + 1]);
         k += 1;
     }
 }
@@ -86,7 +90,7 @@ fn fill_row(line: &[u8], row: &mut [u32])
     requires { ⌜ (length (now line) ≡ countDigits) × (length (now row) ≡ columns) ⌝ }
     ensures { λ _. ⌜ now (row .exit) ≡ rowOf (now (line .entry)) ⌝ }
 {
-    let mut words = [0u64; COLUMNS];
+    let mut words = [0u32; WORDS];
     words_of(line, &mut words);
     fill_words(&words, row);
 }

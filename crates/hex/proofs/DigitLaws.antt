@@ -30,13 +30,14 @@ number-same zero s t h = refl
 number-same (suc k) s t h =
     ap₂ (λ (x y : ℕ). x * 16 + y) (number-same k s t (λ i l. h i (omega arith))) (ap digitValue (h k (omega arith)))
 
--- the first j digits and the k after them
-pub number-split : (j k : ℕ) (s : List ℕ) → number (j + k) s ≡ number j s * 16 ^ k + number k (drop j s)
+-- the j digits from place a on and the k after them
+pub number-split : (j k a : ℕ) (s : List ℕ) → number (j + k) (drop a s) ≡ number j (drop a s) * 16 ^ k + number k (drop (a + j) s)
 unfolding number
-number-split j zero s = let e : j + 0 ≡ j = omega arith in rw e (omega arith)
-number-split j (suc k) s =
+number-split j zero a s = let e : j + 0 ≡ j = omega arith in rw e (omega arith)
+number-split j (suc k) a s =
     let e : j + suc k ≡ suc (j + k) = omega arith in
-    rw (e, getD-drop j s k 0, pow-suc 16 k) (omega (arith, number-split j k s))
+    let place : a + (j + k) ≡ a + j + k = omega arith in
+    rw (e, getD-drop a s (j + k) 0, getD-drop (a + j) s k 0, place, pow-suc 16 k) (omega (arith, number-split j k a s))
 
 -- the digit of a number, and the number of a digit
 

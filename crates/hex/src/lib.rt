@@ -9,7 +9,7 @@ pub use numbers::number_of_eight;
 pub use numbers::number_of_four;
 pub use numbers::number_of_sixteen;
 pub use numbers::number_of_two;
-pub use words::number_of_word;
+pub use words::number_of_words;
 pub use words::word;
 pub use writer::write_digits;
 
