@@ -12,8 +12,7 @@ use Rattle.arithmetic.specs.Lists.{tabulate, part}
 use Rattle.arithmetic.proofs.ListLaws.{length-tabulate, tabulate-at, tabulate-same}
 use Rattle.hex.specs.Digits.{field, isLine}
 use Rattle.hex.specs.Words.{wordAt, numberOfWords}
-use Rattle.hex.proofs.LineLaws.{field-number}
-use Rattle.hex.proofs.WordLaws.{words-number}
+use Rattle.hex.proofs.WordLaws.{words-field}
 use Rattle.case_text.specs.Layout.{dimensionWidth, massWidth, speedWidth, cellAreaWidth, controlledWidth, wordWidth, dimensionStart, massStart, speedStart, cellAreaStart, controlledStart, wordStart, rows, columns, cells, markLine, countWidth, countLine, marksStart, countsStart, textLength}
 use Rattle.case_text.specs.Text.{areLines, isText, headOf, marksOf, countsOf, countOf, rowOf, noHead, readingRefusal, readingOf, leftIn, ReadingPromise, RefusedReading}
 use Rattle.case_text.specs.declared.CaseHead.{CaseHead}
@@ -34,7 +33,7 @@ words-counts line small =
     let high : 4 * (2 * k) ≡ countWidth * k = omega arith in
     let low : 4 * (2 * k + 1) ≡ countWidth * k + 4 = omega arith in
     rw (tabulate-at (wordIn line) (2 * columns) (2 * k) (omega arith), tabulate-at (wordIn line) (2 * columns) (2 * k + 1) (omega arith), high, low)
-    (words-number line (countWidth * k) small ∙ sym (field-number line (countWidth * k) countWidth)))
+    (words-field line (countWidth * k) small))
 
 pub row-long : (line : List ℕ) → length (rowOf line) ≡ columns
 unfolding rowOf

@@ -8,23 +8,21 @@ use crate::layout::COUNT_LINE;
 use crate::layout::COUNTS;
 use crate::layout::DIMENSION;
 use crate::layout::HEAD_DIGITS;
-use crate::layout::MARK_DIGITS;
 use crate::layout::MARK_LINE;
 use crate::layout::MARKS;
 use crate::layout::MASS;
 use crate::layout::ROWS;
 use crate::layout::SPEED;
 use crate::layout::WORD;
-use hex::number_of_eight;
 use hex::number_of_four;
-use hex::number_of_sixteen;
 use hex::number_of_two;
 use hex::number_of_words;
 use hex::word;
 ghost use mathlib.Core.Path.{_≡_};
-ghost use Prim.Native.Nat.{_+_, _*_};
+ghost use Prim.Native.Nat.{_+_, _*_, _≤_};
 ghost use lib.ListN.{length, getD};
 ghost use Rattle.arithmetic.specs.Lists.{tabulate};
+ghost use Rattle.hex.specs.Digits.{field};
 ghost use Rattle.hex.specs.Words.{wordAt, numberOfWords};
 ghost use Rattle.case_text.specs.Layout.{columns, cells, rows, countDigits, textLength};
 ghost use Rattle.case_text.specs.Text.{headOf, marksOf, rowOf, countsOf};
@@ -34,18 +32,42 @@ const WORD_DIGITS: usize = 4;
 
 const WORDS: usize = 2 * COLUMNS;
 
+// The four bytes from a place on as one number.
+fn word_at(s: &[u8], at: usize) -> u32
+    requires { ⌜ at + 4 ≤ length (now s) ⌝ }
+    ensures { λ r. ⌜ r ≡ wordAt (now (s .entry)) at ⌝ }
+{
+    word(&s[at..at + WORD_DIGITS])
+}
+
+// The number in the field of eight digits that starts at a place.
+fn eight_at(text: &[u8], at: usize) -> u32
+    requires { ⌜ at + 8 ≤ length (now text) ⌝ }
+    ensures { λ r. ⌜ r ≡ field (now (text .entry)) at 8 ⌝ }
+{
+    number_of_words(word_at(text, at), word_at(text, at + WORD_DIGITS))
+}
+
 pub(crate) fn head_of(text: &[u8]) -> CaseHead
     requires { ⌜ length (now text) ≡ textLength ⌝ }
     ensures { λ r. ⌜ r ≡ headOf (now (text .entry)) ⌝ }
 {
     CaseHead {
-        dimension: number_of_eight(&text[DIMENSION..MASS]),
-        mass: number_of_eight(&text[MASS..SPEED]),
-        speed: number_of_eight(&text[SPEED..CELL_AREA]),
-        cell_area: number_of_eight(&text[CELL_AREA..CONTROLLED]),
+        dimension: eight_at(text, DIMENSION),
+        mass: eight_at(text, MASS),
+        speed: eight_at(text, SPEED),
+        cell_area: eight_at(text, CELL_AREA),
         controlled: number_of_two(&text[CONTROLLED..WORD]),
         word: number_of_four(&text[WORD..HEAD_DIGITS]),
     }
+}
+
+// The digits of a line of the footprint.
+fn mark_at(text: &[u8], at: usize) -> u64
+    requires { ⌜ at + 16 ≤ length (now text) ⌝ }
+    ensures { λ r. ⌜ r ≡ field (now (text .entry)) at 16 ⌝ }
+{
+    eight_at(text, at) as u64 * 4294967296 + eight_at(text, at + 8) as u64
 }
 
 pub(crate) fn fill_marks(text: &[u8], marks: &mut [u64])
@@ -54,8 +76,7 @@ pub(crate) fn fill_marks(text: &[u8], marks: &mut [u64])
 {
     let mut k = 0;
     while k < ROWS {
-        let at = MARKS + MARK_LINE * k;
-        marks[k] = number_of_sixteen(&text[at..at + MARK_DIGITS]);
+        marks[k] = mark_at(text, MARKS + MARK_LINE * k);
         k += 1;
     }
 }
@@ -67,8 +88,7 @@ fn words_of(line: &[u8], words: &mut [u32])
 {
     let mut i = 0;
     while i < WORDS {
-        let at = WORD_DIGITS * i;
-        words[i] = word(&line[at..at + WORD_DIGITS]);
+        words[i] = word_at(line, WORD_DIGITS * i);
         i += 1;
     }
 }

@@ -8,12 +8,12 @@ use lib.Dec.{eqb}
 use lib.ListN.{length, getD, take, drop, length-append, length-take, length-drop, List·getD-append}
 use lib.Seq.{take-all, getD-at, getD-take, getD-drop, drop-cons}
 use borrow.Author.Tests.{eqb-true}
-use Rattle.arithmetic.specs.Lists.{every, joined, part}
+use Rattle.arithmetic.specs.Lists.{every, joined}
 use Rattle.arithmetic.proofs.TestLaws.{both}
 use Rattle.arithmetic.proofs.ListLaws.{every-at, every-all}
 use Rattle.arithmetic.proofs.PartLaws.{PartIs, within}
 use Rattle.hex.specs.Digits.{isDigit, digitOf, number, digits, field, isLine, lineEnd}
-use Rattle.hex.proofs.DigitLaws.{number-same, digit-is, length-digits, read-written, number-back}
+use Rattle.hex.proofs.DigitLaws.{digit-is, length-digits, read-written, number-back}
 
 -- each byte is a digit
 pub data AllDigits : List ℕ → Type 0 where
@@ -64,10 +64,6 @@ digits-within s a k b j h p =
 
 field-part : (s : List ℕ) (a k : ℕ) → field s a k ≡ number k (take k (drop a s))
 field-part s a k = let wide : a + k - a ≡ k = omega arith in rw wide
-
--- the digits after a field don't matter
-pub field-number : (s : List ℕ) (a k : ℕ) → field s a k ≡ number k (drop a s)
-field-number s a k = number-same k (part s a (a + k)) (drop a s) (λ i l. getD-take (a + k - a) (drop a s) i 0 (omega arith))
 
 -- a number that stands in its field is read
 pub field-read : (s : List ℕ) (a k n : ℕ) → n < 16 ^ k → PartIs s a k (digits k n) → field s a k ≡ n

@@ -8,9 +8,9 @@ use lib.Dec.{lit<}
 use lib.ListN.{getD, drop}
 use lib.Seq.{getD-drop, getD-take}
 use Rattle.arithmetic.specs.Lists.{part}
-use Rattle.hex.specs.Digits.{digitValue, number}
+use Rattle.hex.specs.Digits.{digitValue, number, field}
 use Rattle.hex.specs.Words.{lanes, wordAt, bytesOf, numberOfWord, numberOfWords, valuesOf, pairsOf}
-use Rattle.hex.proofs.DigitLaws.{digit-below, number-split}
+use Rattle.hex.proofs.DigitLaws.{digit-below, number-split, field-number}
 
 abbrev Below : ℕ → ℕ → ℕ → ℕ → ℕ → Type 0
 Below n a b c d = (a < n) × (b < n) × (c < n) × (d < n)
@@ -118,9 +118,10 @@ pub words-join : (x y : ℕ) → numberOfWord x * 65536 + numberOfWord y ≡ num
 unfolding number numberOfWords
 words-join x y = sym (number-split 4 4 0 (bytesOf x ++ bytesOf y))
 
-pub words-number : (s : List ℕ) (a : ℕ) → ((i : ℕ) → getD s i 0 < 256) → numberOfWords (wordAt s a) (wordAt s (a + 4)) ≡ number 8 (drop a s)
-words-number s a small =
-    sym (words-join (wordAt s a) (wordAt s (a + 4))) ∙ ap₂ (λ (x y : ℕ). x * 65536 + y) (word-number s a small) (word-number s (a + 4) small) ∙ sym (number-split 4 4 a s)
+pub words-field : (s : List ℕ) (a : ℕ) → ((i : ℕ) → getD s i 0 < 256) → numberOfWords (wordAt s a) (wordAt s (a + 4)) ≡ field s a 8
+words-field s a small =
+    sym (words-join (wordAt s a) (wordAt s (a + 4))) ∙ ap₂ (λ (x y : ℕ). x * 65536 + y) (word-number s a small) (word-number s (a + 4) small)
+    ∙ sym (number-split 4 4 a s) ∙ sym (field-number s a 8)
 
 -- the word of a part of four bytes
 pub word-part : (s : List ℕ) (a : ℕ) → wordAt (part s a (a + 4)) 0 ≡ wordAt s a

@@ -18,19 +18,11 @@ fn byte(s: &[u8], i: usize) -> u32
     if i < s.len() { s[i] as u32 } else { 0 }
 }
 
-// The four bytes from a place on, the first lowest: one load where they are there.
-pub(crate) fn word_at(s: &[u8], at: usize) -> u32
-    requires { ⌜ at ≤ 12 ⌝ }
-    ensures { λ r. ⌜ r ≡ wordAt (now (s .entry)) at ⌝ }
-{
-    byte(s, at) + byte(s, at + 1) * 256 + byte(s, at + 2) * 65536 + byte(s, at + 3) * 16777216
-}
-
-// The first four bytes of a part as one number.
+// The first four bytes of a part as one number, the first lowest: one load where they are there.
 pub fn word(s: &[u8]) -> u32
     ensures { λ r. ⌜ r ≡ wordAt (now (s .entry)) 0 ⌝ }
 {
-    word_at(s, 0)
+    byte(s, 0) + byte(s, 1) * 256 + byte(s, 2) * 65536 + byte(s, 3) * 16777216
 }
 
 // What each byte's digit stands for, in its byte: the low four bits, and nine more for a letter.

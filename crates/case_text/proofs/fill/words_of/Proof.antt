@@ -1,12 +1,11 @@
 -- `case_text::fill::words_of` meets its contract.
 use borrow.Author.Needs.{needs}
 use native.Mathlib.Omega.{arith}
-use Prim.Native.Nat.{_≤_, _-_, _*_}
-use mathlib.Core.Path.{_≡_, _∙_}
+use Prim.Native.Nat.{_≤_, _-_}
+use mathlib.Core.Path.{_≡_}
 use denote.Ref.{now}
 use Rattle.arithmetic.specs.Lists.{tabulate}
 use Rattle.arithmetic.proofs.PartLaws.{Filled, rule-none, rule-next, filled-all}
-use Rattle.hex.proofs.WordLaws.{word-part}
 use Rattle.case_text.proofs.ReadingLaws.{wordIn}
 use Rattle.case_text.proofs.fill.words_of.Statement.{statement}
 use Rattle.case_text.proofs.fill.words_of.Tie as tie
@@ -20,23 +19,11 @@ abbrev μ-loop : tie.MeasureT-loop
 loop-holds : tie.Need-loop-holds Inv-loop μ-loop
 loop-holds c = (search needs, rule-none _ _)
 
-mul-at : tie.Need-mul-at Inv-loop μ-loop
-mul-at c = omega arith
+mul-word-at : tie.Need-mul-word-at Inv-loop μ-loop
+mul-word-at c = omega arith
 
-add-word : tie.Need-add-word Inv-loop μ-loop
-add-word c = omega arith
-
-sub-word : tie.Need-sub-word Inv-loop μ-loop
-sub-word c = omega arith
-
-part-word-start : tie.Need-part-word-start Inv-loop μ-loop
-part-word-start c = omega arith
-
-part-word-end : tie.Need-part-word-end Inv-loop μ-loop
-part-word-end c = omega arith
-
-word-requires : tie.Need-word-requires Inv-loop μ-loop
-word-requires c κs = search needs
+word-at-requires : tie.Need-word-at-requires Inv-loop μ-loop
+word-at-requires c κs = omega arith
 
 mul-words : tie.Need-mul-words Inv-loop μ-loop
 mul-words c = omega arith
@@ -52,9 +39,9 @@ loop-less c = omega arith
 
 loop-again : tie.Need-loop-again Inv-loop μ-loop
 loop-again c =
-    let at-loop = c .before .before .before in
+    let at-loop = c .before .before in
     let start = at-loop .before .before .before in
-    (omega arith, rule-next (wordIn (now (start .args .line))) (at-loop .loop .i) (c .word .result) (now (start .args .words)) (at-loop .loop .words) (omega arith) (at-loop .loop .inv .1) (c .word .ensures ∙ word-part (now (start .args .line)) (4 * at-loop .loop .i)))
+    (omega arith, rule-next (wordIn (now (start .args .line))) (at-loop .loop .i) (c .word-at .result) (now (start .args .words)) (at-loop .loop .words) (omega arith) (at-loop .loop .inv .1) (c .word-at .ensures))
 
 same-length : tie.Need-same-length Inv-loop μ-loop
 same-length c = c .before .loop .inv .1 .kept
@@ -72,12 +59,8 @@ words-of-spec =
     Inv-loop
     μ-loop
     loop-holds
-    mul-at
-    add-word
-    sub-word
-    part-word-start
-    part-word-end
-    word-requires
+    mul-word-at
+    word-at-requires
     mul-words
     slice-write-words
     add-i

@@ -1,11 +1,12 @@
--- `hex::numbers::eight_at` meets its contract.
+-- `case_text::fill::eight_at` meets its contract.
 use mathlib.Core.Path.{ap₂, _∙_}
 use native.Mathlib.Omega.{arith}
+use denote.Ref.{now}
 use Rattle.hex.specs.Words.{numberOfWords}
-use Rattle.hex.proofs.WordLaws.{words-number}
+use Rattle.hex.proofs.WordLaws.{words-field}
 use borrow.Author.Needs.{needs}
-use Rattle.hex.proofs.numbers.eight_at.Statement.{statement}
-use Rattle.hex.proofs.numbers.eight_at.Tie as tie
+use Rattle.case_text.proofs.fill.eight_at.Statement.{statement}
+use Rattle.case_text.proofs.fill.eight_at.Tie as tie
 
 word-at-requires : tie.Need-word-at-requires
 word-at-requires c κs = search needs
@@ -23,7 +24,7 @@ returns : tie.Need-returns
 returns c =
     let known = c .before .before .before in
     c .number-of-words .ensures ∙ ap₂ numberOfWords (c .before .before .word-at .ensures) (c .before .word-at2 .ensures)
-    ∙ words-number (known .before .args .s .now) (known .before .args .at) (λ i. omega (arith, known .shared-slice-known .given i))
+    ∙ words-field (now (known .before .args .text)) (known .before .args .at) (λ i. omega (arith, known .shared-slice-known .given i))
 
 pub eight-at-spec : {M : Type 1} → statement M
 eight-at-spec =
