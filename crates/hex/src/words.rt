@@ -26,11 +26,12 @@ pub fn word(s: &[u8]) -> u32
 }
 
 // What each byte's digit stands for, in its byte: the low four bits, and nine more for a letter. Seven less gives the same
-// four bits, and no byte borrows from the next.
+// four bits, and no byte borrows from the next. As eight less and one more it is two shifts, not a product.
 fn values(x: u32) -> u32
     ensures { λ r. ⌜ (r ≡ valuesOf x) × (r ≤ 252645135) ⌝ }
 {
-    (x - 7 * ((x >> 6) & UNITS)) & FIFTEENS
+    let letters = (x >> 6) & UNITS;
+    (x - 8 * letters + letters) & FIFTEENS
 }
 
 // Two digits to each second byte.
