@@ -1,5 +1,5 @@
 -- P1 to P16.
-use mathlib.Core.Path.{_≡_, refl, sym, ap, ap₂, _∙_}
+use mathlib.Core.Path.{_≡_, ap, _∙_}
 use mathlib.Core.List.{List, [], _∷_, _++_, map}
 use Prim.Native.Nat.{ℕ}
 use borrow.Author.Tests.{eq-eqb}
@@ -22,13 +22,13 @@ use Rattle.assessment.specs.declared.Assessment.{Assessment}
 use Rattle.assessment.specs.Working.{afterClass, afterFootprint, workingOn}
 use Rattle.assessment.specs.Assessment.{assessedBy, assessmentOf}
 use Rattle.case_text.specs.declared.CaseHead.{CaseHead}
-use Rattle.case_text.specs.Text.{countsOf, marksOf, readingRefusal}
+use Rattle.case_text.specs.Text.{countsOf, marksOf}
 use Rattle.frame.specs.declared.FrameFields.{FrameFields}
 use Rattle.frame.specs.Frame.{printed}
 use Rattle.frame.specs.WorkedLines.{p16Fields, p16Line}
 use Rattle.frame.proofs.FrameProof.{worked-lines}
 use Rattle.ground_risk_case.specs.Case.{fieldsOf, assessmentIn, outcomeOf}
-use Rattle.ground_risk_case.specs.Points.{P16Text, P16Holds, WorkedPoint, aircraft, cell, mitigation, wholeCase, WorkedPointHolds, workedPoints, WorkedPointsHold}
+use Rattle.ground_risk_case.specs.Points.{P16Text, P16Holds, aircraft, cell, mitigation, wholeCase, WorkedPointHolds, WorkedPointsHold}
 
 -- what is shown of an assessment: the refusal, and the printed fields
 record Told : Type 0 where

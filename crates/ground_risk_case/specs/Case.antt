@@ -2,13 +2,11 @@
 use mathlib.Core.Path.{_≡_}
 use mathlib.Core.Bool.{cond}
 use mathlib.Core.List.{List}
-use Prim.Native.Nat.{ℕ}
+use Prim.Native.Nat.{ℕ, _≤_}
 use lib.Dec.{ltb, eqb}
-use lib.IntN.{pos}
 use lib.ListN.{length}
 use Rattle.assessment.specs.declared.Assessment.{Assessment}
 use Rattle.assessment.specs.Assessment.{refusedAssessment, assessmentOf}
-use Rattle.case_text.specs.declared.CaseHead.{CaseHead}
 use Rattle.case_text.specs.Text.{headOf, marksOf, countsOf, readingRefusal, leftIn}
 use Rattle.frame.specs.declared.FrameFields.{FrameFields}
 use Rattle.frame.specs.Layout.{frameLength}
@@ -60,3 +58,7 @@ pub record CasePromise (text counts marks frame : List ℕ) (answer : ℕ) (coun
       counts-after ≡ keptUnder15 (length frame) (leftIn (readingRefusal text (length counts) (length marks)) (countsOf text) counts) counts
   pub marks-left :
       marks-after ≡ keptUnder15 (length frame) (leftIn (readingRefusal text (length counts) (length marks)) (marksOf text) marks) marks
+
+-- demand 1: the answer is 0 or one of document 01's refusal numbers, whatever the text and the lent buffers
+abbrev pub CaseAnswerListed : Type 0
+CaseAnswerListed = (t : List ℕ) (counts marks frame : ℕ) → caseAnswer t counts marks frame ≤ 15

@@ -55,7 +55,7 @@ fn total_at(a: u64, glide: u64, slide: u64) -> u64
     requires { ⌜ (a ≤ aMax) × (glide ≤ glideMax) × (slide ≤ slideMax) ⌝ }
     ensures { λ r. ⌜ r ≡ totalAt a glide slide ⌝ }
 {
-    a * (glide + slide) + 785 * a * a
+    a * (glide + slide + 785 * a)
 }
 
 pub fn total(a: u64, glide: Bracket, slide: Bracket) -> Bracket
@@ -72,7 +72,7 @@ fn glide_only_at(a: u64, glide: u64) -> u64
     requires { ⌜ (a ≤ aMax) × (glide ≤ glideMax) ⌝ }
     ensures { λ r. ⌜ r ≡ glideOnlyAt a glide ⌝ }
 {
-    2 * a * glide + 785 * a * a
+    a * (2 * glide + 785 * a)
 }
 
 // A numerator's two ends over one denominator, the low one rounded down and the high one up.

@@ -1,0 +1,60 @@
+-- The text keeps its length, and each place written is within it.
+use borrow.Author.Needs.{needs}
+use Prim.Native.Nat.{_≤_, _-_}
+use mathlib.Core.Path.{_≡_}
+use lib.ListN.{length}
+use Rattle.random_cases.proofs.text.write_count_line_ends.Statement.{statement}
+use Rattle.random_cases.proofs.text.write_count_line_ends.Tie as tie
+
+abbrev Inv-loop : tie.InvT-loop
+Inv-loop text₀ row₀ text row = (row ≤ 64) × (length text ≡ 33960)
+
+abbrev μ-loop : tie.MeasureT-loop
+μ-loop text₀ row₀ text row = 64 - row
+
+loop-holds : tie.Need-loop-holds Inv-loop μ-loop
+loop-holds c = search needs
+
+mul-text : tie.Need-mul-text Inv-loop μ-loop
+mul-text c = search needs
+
+add-text : tie.Need-add-text Inv-loop μ-loop
+add-text c = search needs
+
+add-text-2 : tie.Need-add-text-2 Inv-loop μ-loop
+add-text-2 c = search needs
+
+slice-write-text : tie.Need-slice-write-text Inv-loop μ-loop
+slice-write-text c = search needs
+
+add-row : tie.Need-add-row Inv-loop μ-loop
+add-row c = search needs
+
+loop-less : tie.Need-loop-less Inv-loop μ-loop
+loop-less c = search needs
+
+loop-again : tie.Need-loop-again Inv-loop μ-loop
+loop-again c = search needs
+
+same-length : tie.Need-same-length Inv-loop μ-loop
+same-length c = search needs
+
+returns : tie.Need-returns Inv-loop μ-loop
+returns c = search needs
+
+pub write-count-line-ends-spec : {M : Type 1} → statement M
+write-count-line-ends-spec =
+    tie.close
+    (tie.spec
+    Inv-loop
+    μ-loop
+    loop-holds
+    mul-text
+    add-text
+    add-text-2
+    slice-write-text
+    add-row
+    loop-less
+    loop-again
+    same-length
+    returns)
