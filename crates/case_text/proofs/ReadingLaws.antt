@@ -1,20 +1,18 @@
 -- Laws of the reading: words and counts, what an accepted text has, and what a refused reading leaves.
 use mathlib.Core.Path.{_≡_, refl, sym, ap, _∙_}
 use mathlib.Core.Bool.{Bool, true, false, not, _&&_, _||_, cond}
-use mathlib.Core.Logic.{_⊎_, inl, inr, ⊎-elim}
+use mathlib.Core.Logic.{_⊎_, inl, inr}
 use mathlib.Core.List.{List}
 use Prim.Native.Nat.{ℕ, _+_, _-_, _*_, _<_, _≤_}
 use native.Mathlib.Omega.{arith}
 use lib.Dec.{eqb}
-use lib.ListN.{length, getD, drop, length-take, List·getD-eq-default}
-use lib.Seq.{getD-take, getD-drop}
+use lib.ListN.{length, getD}
 use borrow.Author.Tests.{ne-eqb, eqb-true}
 use Rattle.arithmetic.specs.Lists.{tabulate, part}
-use Rattle.arithmetic.proofs.TestLaws.{lt-or-le}
 use Rattle.arithmetic.proofs.ListLaws.{length-tabulate, tabulate-at, tabulate-same}
 use Rattle.hex.specs.Digits.{field, isLine}
-use Rattle.hex.specs.Words.{wordOf, numberOfWord}
-use Rattle.hex.proofs.WordLaws.{word-number}
+use Rattle.hex.specs.Words.{wordAt, numberOfWords}
+use Rattle.hex.proofs.WordLaws.{words-field}
 use Rattle.case_text.specs.Layout.{dimensionWidth, massWidth, speedWidth, cellAreaWidth, controlledWidth, wordWidth, dimensionStart, massStart, speedStart, cellAreaStart, controlledStart, wordStart, rows, columns, cells, markLine, countWidth, countLine, marksStart, countsStart, textLength}
 use Rattle.case_text.specs.Text.{areLines, isText, headOf, marksOf, countsOf, countOf, rowOf, noHead, readingRefusal, readingOf, leftIn, ReadingPromise, RefusedReading}
 use Rattle.case_text.specs.declared.CaseHead.{CaseHead}
@@ -23,23 +21,19 @@ use Rattle.case_text.specs.declared.Reading.{Reading}
 -- the words of a line, and their numbers
 
 abbrev pub wordIn : List ℕ → ℕ → ℕ
-wordIn line k = wordOf (part line (countWidth * k) (countWidth * k + countWidth))
+wordIn line i = wordAt line (4 * i)
 
-part-small : (s : List ℕ) (a e i : ℕ) → ((j : ℕ) → getD s j 0 < 256) → getD (part s a e) i 0 < 256
-part-small s a e i small = ⊎-elim inside outside (lt-or-le i (e - a))
-  where
-    inside : i < e - a → getD (part s a e) i 0 < 256
-    inside l = omega (arith, getD-take (e - a) (drop a s) i 0 l ∙ getD-drop a s i 0, small (a + i))
+abbrev pub countIn : List ℕ → ℕ → ℕ
+countIn words k = numberOfWords (getD words (2 * k) 0) (getD words (2 * k + 1) 0)
 
-    outside : e - a ≤ i → getD (part s a e) i 0 < 256
-    outside g =
-        let short : length (part s a e) ≤ i = simp length-take (omega arith) in
-        omega (arith, List·getD-eq-default (part s a e) 0 short)
-
-pub words-counts : (line : List ℕ) → ((i : ℕ) → getD line i 0 < 256) → tabulate (λ k. numberOfWord (getD (tabulate (wordIn line) columns) k 0)) columns ≡ tabulate (countOf line) columns
+pub words-counts : (line : List ℕ) → ((i : ℕ) → getD line i 0 < 256) → tabulate (countIn (tabulate (wordIn line) (2 * columns))) columns ≡ tabulate (countOf line) columns
 words-counts line small =
-    tabulate-same (λ k. numberOfWord (getD (tabulate (wordIn line) columns) k 0)) (countOf line) columns
-    (λ k l. ap numberOfWord (tabulate-at (wordIn line) columns k l) ∙ word-number (part line (countWidth * k) (countWidth * k + countWidth)) (λ i. part-small line (countWidth * k) (countWidth * k + countWidth) i small))
+    tabulate-same (countIn (tabulate (wordIn line) (2 * columns))) (countOf line) columns
+    (λ k l.
+    let high : 4 * (2 * k) ≡ countWidth * k = omega arith in
+    let low : 4 * (2 * k + 1) ≡ countWidth * k + 4 = omega arith in
+    rw (tabulate-at (wordIn line) (2 * columns) (2 * k) (omega arith), tabulate-at (wordIn line) (2 * columns) (2 * k + 1) (omega arith), high, low)
+    (words-field line (countWidth * k) small))
 
 pub row-long : (line : List ℕ) → length (rowOf line) ≡ columns
 unfolding rowOf

@@ -5,43 +5,69 @@ use crate::layout::COLUMNS;
 use crate::layout::CONTROLLED;
 use crate::layout::COUNT_DIGITS;
 use crate::layout::COUNT_LINE;
-use crate::layout::COUNT_WIDTH;
 use crate::layout::COUNTS;
 use crate::layout::DIMENSION;
 use crate::layout::HEAD_DIGITS;
-use crate::layout::MARK_DIGITS;
 use crate::layout::MARK_LINE;
 use crate::layout::MARKS;
 use crate::layout::MASS;
 use crate::layout::ROWS;
 use crate::layout::SPEED;
 use crate::layout::WORD;
-use hex::number_of_eight;
 use hex::number_of_four;
-use hex::number_of_sixteen;
 use hex::number_of_two;
-use hex::number_of_word;
+use hex::number_of_words;
 use hex::word;
 ghost use mathlib.Core.Path.{_≡_};
-ghost use Prim.Native.Nat.{_+_, _*_};
+ghost use Prim.Native.Nat.{_+_, _*_, _≤_};
 ghost use lib.ListN.{length, getD};
-ghost use Rattle.arithmetic.specs.Lists.{tabulate, part};
-ghost use Rattle.hex.specs.Words.{wordOf, numberOfWord};
-ghost use Rattle.case_text.specs.Layout.{columns, cells, rows, countWidth, countDigits, textLength};
+ghost use Rattle.arithmetic.specs.Lists.{tabulate};
+ghost use Rattle.hex.specs.Digits.{field};
+ghost use Rattle.hex.specs.Words.{wordAt, numberOfWords};
+ghost use Rattle.case_text.specs.Layout.{columns, cells, rows, countDigits, textLength};
 ghost use Rattle.case_text.specs.Text.{headOf, marksOf, rowOf, countsOf};
+
+// The digits of a word, and the words of a line of counts.
+const WORD_DIGITS: usize = 4;
+
+const WORDS: usize = 2 * COLUMNS;
+
+// The four bytes from a place on as one number.
+fn word_at(s: &[u8], at: usize) -> u32
+    requires { ⌜ at + 4 ≤ length (now s) ⌝ }
+    ensures { λ r. ⌜ r ≡ wordAt (now (s .entry)) at ⌝ }
+{
+    word(&s[at..at + WORD_DIGITS])
+}
+
+// The number in the field of eight digits that starts at a place.
+fn eight_at(text: &[u8], at: usize) -> u32
+    requires { ⌜ at + 8 ≤ length (now text) ⌝ }
+    ensures { λ r. ⌜ r ≡ field (now (text .entry)) at 8 ⌝ }
+{
+    number_of_words(word_at(text, at), word_at(text, at + WORD_DIGITS))
+}
 
 pub(crate) fn head_of(text: &[u8]) -> CaseHead
     requires { ⌜ length (now text) ≡ textLength ⌝ }
     ensures { λ r. ⌜ r ≡ headOf (now (text .entry)) ⌝ }
 {
     CaseHead {
-        dimension: number_of_eight(&text[DIMENSION..MASS]),
-        mass: number_of_eight(&text[MASS..SPEED]),
-        speed: number_of_eight(&text[SPEED..CELL_AREA]),
-        cell_area: number_of_eight(&text[CELL_AREA..CONTROLLED]),
+        dimension: eight_at(text, DIMENSION),
+        mass: eight_at(text, MASS),
+        speed: eight_at(text, SPEED),
+        cell_area: eight_at(text, CELL_AREA),
         controlled: number_of_two(&text[CONTROLLED..WORD]),
         word: number_of_four(&text[WORD..HEAD_DIGITS]),
     }
+}
+
+// The digits of a line of the footprint.
+fn mark_at(text: &[u8], at: usize) -> u64
+    requires { ⌜ at + 16 ≤ length (now text) ⌝ }
+    ensures { λ r. ⌜ r ≡ field (now (text .entry)) at 16 ⌝ }
+{
+    eight_at(text, at) as u64 * 4294967296 + eight_at(text, at + 8) as u64
 }
 
 pub(crate) fn fill_marks(text: &[u8], marks: &mut [u64])
@@ -50,33 +76,31 @@ pub(crate) fn fill_marks(text: &[u8], marks: &mut [u64])
 {
     let mut k = 0;
     while k < ROWS {
-        let at = MARKS + MARK_LINE * k;
-        marks[k] = number_of_sixteen(&text[at..at + MARK_DIGITS]);
+        marks[k] = mark_at(text, MARKS + MARK_LINE * k);
         k += 1;
     }
 }
 
-// Each eight bytes of a line as one number: a copy.
-fn words_of(line: &[u8], words: &mut [u64])
-    requires { ⌜ (length (now line) ≡ countDigits) × (length (now words) ≡ columns) ⌝ }
-    ensures { λ _. ⌜ now (words .exit) ≡ tabulate (λ k. wordOf (part (now (line .entry)) (countWidth * k) (countWidth * k + countWidth))) columns ⌝ }
+// Each four bytes of a line as one number: a copy.
+fn words_of(line: &[u8], words: &mut [u32])
+    requires { ⌜ (length (now line) ≡ countDigits) × (length (now words) ≡ 2 * columns) ⌝ }
+    ensures { λ _. ⌜ now (words .exit) ≡ tabulate (λ i. wordAt (now (line .entry)) (4 * i)) (2 * columns) ⌝ }
 {
-    let mut k = 0;
-    while k < COLUMNS {
-        let at = COUNT_WIDTH * k;
-        words[k] = word(&line[at..at + COUNT_WIDTH]);
-        k += 1;
+    let mut i = 0;
+    while i < WORDS {
+        words[i] = word_at(line, WORD_DIGITS * i);
+        i += 1;
     }
 }
 
-// The number of each word: vectorised, unlike a loop that also makes the words.
-fn fill_words(words: &[u64], row: &mut [u32])
-    requires { ⌜ (length (now words) ≡ columns) × (length (now row) ≡ columns) ⌝ }
-    ensures { λ _. ⌜ now (row .exit) ≡ tabulate (λ k. numberOfWord (getD (now (words .entry)) k 0)) columns ⌝ }
+// The count of each two words: vectorised, unlike a loop that also makes the words.
+fn fill_words(words: &[u32], row: &mut [u32])
+    requires { ⌜ (length (now words) ≡ 2 * columns) × (length (now row) ≡ columns) ⌝ }
+    ensures { λ _. ⌜ now (row .exit) ≡ tabulate (λ k. numberOfWords (getD (now (words .entry)) (2 * k) 0) (getD (now (words .entry)) (2 * k + 1) 0)) columns ⌝ }
 {
     let mut k = 0;
     while k < COLUMNS {
-        row[k] = number_of_word(words[k]);
+        row[k] = number_of_words(words[2 * k], words[2 * k + 1]);
         k += 1;
     }
 }
@@ -86,7 +110,7 @@ fn fill_row(line: &[u8], row: &mut [u32])
     requires { ⌜ (length (now line) ≡ countDigits) × (length (now row) ≡ columns) ⌝ }
     ensures { λ _. ⌜ now (row .exit) ≡ rowOf (now (line .entry)) ⌝ }
 {
-    let mut words = [0u64; COLUMNS];
+    let mut words = [0u32; WORDS];
     words_of(line, &mut words);
     fill_words(&words, row);
 }

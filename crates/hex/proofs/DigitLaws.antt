@@ -8,10 +8,11 @@ use native.Mathlib.Nat.{pow-suc}
 use native.Mathlib.Omega.{arith}
 use lib.Dec.{leb}
 use lib.ListN.{length, getD, take, drop, set, length-append, length-set, List·getD-append}
-use lib.Seq.{drop-cons, append-snoc, getD-set-same, drop-set-lt, getD-at, getD-drop, take-suc}
+use lib.Seq.{drop-cons, append-snoc, getD-set-same, drop-set-lt, getD-at, getD-drop, getD-take, take-suc}
 use borrow.Author.Tests.{lt-ltb, le-ltb, le-leb, lt-leb, leb-true}
+use Rattle.arithmetic.specs.Lists.{part}
 use Rattle.arithmetic.proofs.TestLaws.{lt-or-le, both}
-use Rattle.hex.specs.Digits.{isDigit, digitValue, digitOf, number, digits}
+use Rattle.hex.specs.Digits.{isDigit, digitValue, digitOf, number, digits, field}
 use Rattle.hex.specs.DigitLaw.{DigitLaw}
 
 pub digit-below : (b : ℕ) → digitValue b < 16
@@ -30,13 +31,22 @@ number-same zero s t h = refl
 number-same (suc k) s t h =
     ap₂ (λ (x y : ℕ). x * 16 + y) (number-same k s t (λ i l. h i (omega arith))) (ap digitValue (h k (omega arith)))
 
--- the first j digits and the k after them
-pub number-split : (j k : ℕ) (s : List ℕ) → number (j + k) s ≡ number j s * 16 ^ k + number k (drop j s)
+-- the j digits from place a on and the k after them
+pub number-split : (j k a : ℕ) (s : List ℕ) → number (j + k) (drop a s) ≡ number j (drop a s) * 16 ^ k + number k (drop (a + j) s)
 unfolding number
-number-split j zero s = let e : j + 0 ≡ j = omega arith in rw e (omega arith)
-number-split j (suc k) s =
+number-split j zero a s = let e : j + 0 ≡ j = omega arith in rw e (omega arith)
+number-split j (suc k) a s =
     let e : j + suc k ≡ suc (j + k) = omega arith in
-    rw (e, getD-drop j s k 0, pow-suc 16 k) (omega (arith, number-split j k s))
+    let place : a + (j + k) ≡ a + j + k = omega arith in
+    rw (e, getD-drop a s (j + k) 0, getD-drop (a + j) s k 0, place, pow-suc 16 k) (omega (arith, number-split j k a s))
+
+-- what stands after a field doesn't matter
+pub field-number : (s : List ℕ) (a k : ℕ) → field s a k ≡ number k (drop a s)
+field-number s a k = number-same k (part s a (a + k)) (drop a s) (λ i l. getD-take (a + k - a) (drop a s) i 0 (omega arith))
+
+-- the first j digits of a field and its other k
+pub field-split : (s : List ℕ) (a j k : ℕ) → field s a (j + k) ≡ field s a j * 16 ^ k + field s (a + j) k
+field-split s a j k = rw (field-number s a (j + k), field-number s a j, field-number s (a + j) k) (number-split j k a s)
 
 -- the digit of a number, and the number of a digit
 

@@ -1,5 +1,4 @@
 pub mod DigitLaws
-pub mod LaneLaws
 pub mod WordLaws
 pub mod LineLaws
 pub mod FieldLaws

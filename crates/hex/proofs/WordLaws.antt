@@ -1,169 +1,131 @@
--- Eight digits in the lanes of one number become the number that they stand for.
-use mathlib.Core.Path.{_≡_, refl, ap, ap₂, _∙_}
-use mathlib.Core.List.{List}
-use mathlib.Core.Logic.{⊎-elim}
-use Prim.Native.Nat.{ℕ, suc, _+_, _*_, _/_, _%_, _^_, _<_, _≤_}
+-- Four digits in the lanes of one number become the number that they stand for.
+use mathlib.Core.Path.{_≡_, refl, sym, ap, ap₂, _∙_}
+use mathlib.Core.List.{List, [], _∷_, _++_}
+use Prim.Native.Nat.{ℕ, _+_, _-_, _*_, _/_, _%_, _^_, _<_}
 use native.Mathlib.Omega.{arith}
-use lib.Bits.{bitAnd}
+use lib.Bits.{bitAnd, and-block, and-mask, and-zero-r}
 use lib.Dec.{lit<}
-use lib.ListN.{length, getD, drop, List·getD-eq-default}
-use lib.Seq.{getD-drop}
-use Rattle.arithmetic.proofs.TestLaws.{lt-or-le}
-use Rattle.arithmetic.proofs.ListLaws.{length-tabulate, tabulate-at}
-use Rattle.hex.specs.Digits.{digitValue, number}
-use Rattle.hex.specs.Words.{lanes, wordOf, bytesOf, numberOfWord, valuesOf, pairsOf, foursOf}
-use Rattle.hex.proofs.DigitLaws.{number-same}
-use Rattle.hex.proofs.LaneLaws.{lanes-same, lanes-mask, lanes-add, lanes-shift, bytes-whole, byte-of}
+use lib.ListN.{getD, drop}
+use lib.Seq.{getD-drop, getD-take}
+use Rattle.arithmetic.specs.Lists.{part}
+use Rattle.hex.specs.Digits.{digitValue, number, field}
+use Rattle.hex.specs.Words.{lanes, wordAt, bytesOf, numberOfWord, numberOfWords, valuesOf, pairsOf}
+use Rattle.hex.proofs.DigitLaws.{digit-below, number-split, field-number}
 
--- the masks
-fifteens : 1085102592571150095 ≡ lanes 256 (λ i. 15) 8
-unfolding lanes
-fifteens = refl
+abbrev Below : ℕ → ℕ → ℕ → ℕ → ℕ → Type 0
+Below n a b c d = (a < n) × (b < n) × (c < n) × (d < n)
 
-units : 72340172838076673 ≡ lanes 256 (λ i. 1) 8
-unfolding lanes
-units = refl
+-- the highest lane in front
+nested : (a b c d : ℕ) → lanes a b c d ≡ ((d * 256 + c) * 256 + b) * 256 + a
+nested a b c d = omega arith
 
-bytes : 71777214294589695 ≡ lanes 65536 (λ i. 255) 4
-unfolding lanes
-bytes = refl
+-- an "and" of lanes is made lane by lane
+lanes-and : (a b c d m n o p : ℕ) → Below 256 a b c d → Below 256 m n o p → bitAnd (lanes a b c d) (lanes m n o p) ≡ lanes (bitAnd a m) (bitAnd b n) (bitAnd c o) (bitAnd d p)
+lanes-and a b c d m n o p s t =
+    ap₂ bitAnd (nested a b c d) (nested m n o p)
+    ∙ and-block 8 ((d * 256 + c) * 256 + b) ((p * 256 + o) * 256 + n) a m (s .0) (t .0)
+    ∙ ap (λ (x : ℕ). x * 256 + bitAnd a m) (and-block 8 (d * 256 + c) (p * 256 + o) b n (s .1) (t .1) ∙ ap (λ (x : ℕ). x * 256 + bitAnd b n) (and-block 8 d p c o (s .2) (t .2)))
+    ∙ sym (nested (bitAnd a m) (bitAnd b n) (bitAnd c o) (bitAnd d p))
 
-halves : 281470681808895 ≡ lanes 4294967296 (λ i. 65535) 2
-unfolding lanes
-halves = refl
+-- a mask of j ones in each lane keeps each lane's j low bits
+lanes-mask : (j a b c d : ℕ) → Below 256 a b c d → 2 ^ j - 1 < 256
+    → bitAnd (lanes a b c d) (lanes (2 ^ j - 1) (2 ^ j - 1) (2 ^ j - 1) (2 ^ j - 1)) ≡ lanes (a % 2 ^ j) (b % 2 ^ j) (c % 2 ^ j) (d % 2 ^ j)
+lanes-mask j a b c d s h =
+    rw (lanes-and a b c d (2 ^ j - 1) (2 ^ j - 1) (2 ^ j - 1) (2 ^ j - 1) s (h, h, h, h), and-mask a j, and-mask b j, and-mask c j, and-mask d j)
+
+-- a shift by six: each lane takes in six bits of the next
+shifted : (a b c d : ℕ) → Below 256 a b c d → lanes a b c d / 64 ≡ lanes (a / 64 + 4 * (b % 64)) (b / 64 + 4 * (c % 64)) (c / 64 + 4 * (d % 64)) (d / 64)
+shifted a b c d s = omega arith
+
+letter : (a b : ℕ) → (a / 64 + 4 * (b % 64)) % 2 ≡ a / 64 % 2
+letter a b = omega arith
 
 -- the value of the digit in each byte
-module _ (f : ℕ → ℕ) (small : (i : ℕ) → f i < 256) (past : f 8 ≡ 0) where
-  low : bitAnd (lanes 256 f 8) 1085102592571150095 ≡ lanes 256 (λ i. f i % 16) 8
-  low = ap (bitAnd (lanes 256 f 8)) fifteens ∙ lanes-mask 8 4 f 8 small (lit< tt)
+values-are : (a b c d : ℕ) → Below 256 a b c d → valuesOf (lanes a b c d) ≡ lanes (digitValue a) (digitValue b) (digitValue c) (digitValue d)
+values-are a b c d s =
+    let low = lanes-mask 4 a b c d s (lit< tt) in
+    let letters : bitAnd (lanes a b c d / 64) 16843009 ≡ lanes (a / 64 % 2) (b / 64 % 2) (c / 64 % 2) (d / 64 % 2) =
+    ap (λ (x : ℕ). bitAnd x 16843009) (shifted a b c d s)
+    ∙ lanes-mask 1 (a / 64 + 4 * (b % 64)) (b / 64 + 4 * (c % 64)) (c / 64 + 4 * (d % 64)) (d / 64) (omega arith, omega arith, omega arith, omega arith) (lit< tt)
+    ∙ rw (letter a b, letter b c, letter c d) refl in
+    ap₂ (λ (x y : ℕ). bitAnd (x + 9 * y) 252645135) low letters
+    ∙ ap (λ (x : ℕ). bitAnd x 252645135) (sum (a % 16) (b % 16) (c % 16) (d % 16) (a / 64 % 2) (b / 64 % 2) (c / 64 % 2) (d / 64 % 2))
+    ∙ lanes-mask 4 (a % 16 + 9 * (a / 64 % 2)) (b % 16 + 9 * (b / 64 % 2)) (c % 16 + 9 * (c / 64 % 2)) (d % 16 + 9 * (d / 64 % 2)) (omega arith, omega arith, omega arith, omega arith) (lit< tt)
+  where
+    sum : (a b c d i j k l : ℕ) → lanes a b c d + 9 * lanes i j k l ≡ lanes (a + 9 * i) (b + 9 * j) (c + 9 * k) (d + 9 * l)
+    sum a b c d i j k l = omega arith
 
-  letters : bitAnd (lanes 256 f 8 / 64) 72340172838076673 ≡ lanes 256 (λ i. f i / 64 % 2) 8
-  letters =
-      ap₂ bitAnd (lanes-shift f 8 past) units
-      ∙ lanes-mask 8 1 (λ i. f i / 64 + 4 * (f (suc i) % 64)) 8 (λ i. omega (arith, small i)) (lit< tt)
-      ∙ lanes-same 256 (λ i. (f i / 64 + 4 * (f (suc i) % 64)) % 2) (λ i. f i / 64 % 2) 8 (λ i l. omega arith)
+-- two digits of 4 bits, each in a byte, come together in a byte
+pairs-are : (a b c d : ℕ) → Below 16 a b c d → pairsOf (lanes a b c d) ≡ lanes (a * 16 + b) 0 (c * 16 + d) 0
+pairs-are a b c d s =
+    let spread : lanes a b c d * 16 + lanes a b c d / 256 ≡ lanes (a * 16 + b) (b * 16 + c) (c * 16 + d) (d * 16) = omega arith in
+    let first : bitAnd (a * 16 + b) 255 ≡ a * 16 + b = omega (arith, and-mask (a * 16 + b) 8) in
+    let second : bitAnd (c * 16 + d) 255 ≡ c * 16 + d = omega (arith, and-mask (c * 16 + d) 8) in
+    ap (λ (x : ℕ). bitAnd x 16711935) spread
+    ∙ lanes-and (a * 16 + b) (b * 16 + c) (c * 16 + d) (d * 16) 255 0 255 0 (omega arith, omega arith, omega arith, omega arith) (lit< tt, lit< tt, lit< tt, lit< tt)
+    ∙ rw (first, second, and-zero-r (b * 16 + c), and-zero-r (d * 16)) refl
 
-  values-are : valuesOf (lanes 256 f 8) ≡ lanes 256 (λ i. digitValue (f i)) 8
-  values-are =
-      ap₂ bitAnd (ap₂ (λ (x y : ℕ). x + 9 * y) low letters ∙ lanes-add (λ i. f i % 16) (λ i. f i / 64 % 2) 8) fifteens
-      ∙ lanes-mask 8 4 (λ i. f i % 16 + 9 * (f i / 64 % 2)) 8 (λ i. omega arith) (lit< tt)
+pair-joined : (e f : ℕ) → e < 256 → f < 256 → (lanes e 0 f 0 * 256 + lanes e 0 f 0 / 65536) % 65536 ≡ e * 256 + f
+pair-joined e f h l =
+    let upper : lanes e 0 f 0 / 65536 ≡ f = omega arith in
+    let sum : lanes e 0 f 0 * 256 + f ≡ f * 256 * 65536 + (e * 256 + f) = omega arith in
+    rw (upper, sum) (omega arith)
 
--- two digits of 4 bits, each in a lane of 8, come together in a lane of 16
-spread-pairs : (d : ℕ → ℕ) → ((i : ℕ) → d i < 16) → d 8 ≡ 0
-    → lanes 256 d 8 * 16 + lanes 256 d 8 / 256 ≡ lanes 65536 (λ j. d (2 * j) * 16 + d (2 * j + 1) + 256 * (d (2 * j + 1) * 16 + d (2 * j + 2))) 4
-unfolding lanes
-spread-pairs d small past = omega (arith, small 0, small 1, small 2, small 3, small 4, small 5, small 6, small 7, past)
-
-pairs-are : (d : ℕ → ℕ) → ((i : ℕ) → d i < 16) → d 8 ≡ 0 → pairsOf (lanes 256 d 8) ≡ lanes 65536 (λ j. d (2 * j) * 16 + d (2 * j + 1)) 4
-pairs-are d small past =
-    ap₂ bitAnd (spread-pairs d small past) bytes
-    ∙ lanes-mask 16 8 (λ j. d (2 * j) * 16 + d (2 * j + 1) + 256 * (d (2 * j + 1) * 16 + d (2 * j + 2))) 4
-    (λ j. omega (arith, small (2 * j), small (2 * j + 1), small (2 * j + 2))) (lit< tt)
-    ∙ lanes-same 65536 (λ j. (d (2 * j) * 16 + d (2 * j + 1) + 256 * (d (2 * j + 1) * 16 + d (2 * j + 2))) % 256) (λ j. d (2 * j) * 16 + d (2 * j + 1)) 4
-    (λ j l. omega (arith, small (2 * j), small (2 * j + 1)))
-
--- two bytes, each in a lane of 16, come together in a lane of 32
-spread-fours : (e : ℕ → ℕ) → ((i : ℕ) → e i < 256) → e 4 ≡ 0
-    → lanes 65536 e 4 * 256 + lanes 65536 e 4 / 65536 ≡ lanes 4294967296 (λ j. e (2 * j) * 256 + e (2 * j + 1) + 65536 * (e (2 * j + 1) * 256 + e (2 * j + 2))) 2
-unfolding lanes
-spread-fours e small past = omega (arith, small 0, small 1, small 2, small 3, past)
-
-fours-are : (e : ℕ → ℕ) → ((i : ℕ) → e i < 256) → e 4 ≡ 0 → foursOf (lanes 65536 e 4) ≡ lanes 4294967296 (λ j. e (2 * j) * 256 + e (2 * j + 1)) 2
-fours-are e small past =
-    ap₂ bitAnd (spread-fours e small past) halves
-    ∙ lanes-mask 32 16 (λ j. e (2 * j) * 256 + e (2 * j + 1) + 65536 * (e (2 * j + 1) * 256 + e (2 * j + 2))) 2
-    (λ j. omega (arith, small (2 * j), small (2 * j + 1), small (2 * j + 2))) (lit< tt)
-    ∙ lanes-same 4294967296 (λ j. (e (2 * j) * 256 + e (2 * j + 1) + 65536 * (e (2 * j + 1) * 256 + e (2 * j + 2))) % 65536) (λ j. e (2 * j) * 256 + e (2 * j + 1)) 2
-    (λ j l. omega (arith, small (2 * j), small (2 * j + 1)))
-
--- the two halves
-upper : (a b : ℕ) → b < 4294967296 → (a * 4294967296 + b) / 4294967296 ≡ a
-upper a b h = omega arith
-
-lower : (a b : ℕ) → b < 4294967296 → (a * 4294967296 + b) % 4294967296 ≡ b
-lower a b h = omega arith
-
-last-are : (a b : ℕ) → a < 65536 → b < 65536
-    → ((a * 4294967296 + b) * 65536 + (a * 4294967296 + b) / 4294967296) % 4294967296 ≡ b * 65536 + a
-last-are a b h l =
-    let e : (a * 4294967296 + b) * 65536 + a ≡ a * 65536 * 4294967296 + (b * 65536 + a) = omega arith in
-    ap (λ (x : ℕ). ((a * 4294967296 + b) * 65536 + x) % 4294967296) (upper a b (omega arith))
-    ∙ ap (λ (x : ℕ). x % 4294967296) e ∙ lower (a * 65536) (b * 65536 + a) (omega arith)
-
-two-lanes : (g : ℕ → ℕ) → lanes 4294967296 g 2 ≡ g 1 * 4294967296 + g 0
-unfolding lanes
-two-lanes g = omega arith
-
-joined-fours : (a b c d e f g h : ℕ)
-    → ((a * 16 + b) * 256 + (c * 16 + d)) * 65536 + ((e * 16 + f) * 256 + (g * 16 + h)) ≡ (((((((0 * 16 + a) * 16 + b) * 16 + c) * 16 + d) * 16 + e) * 16 + f) * 16 + g) * 16 + h
-joined-fours a b c d e f g h = omega arith
-
-by-fours : (d : ℕ → ℕ) (s : List ℕ) → d ≡ (λ i. digitValue (getD s i 0))
-    → ((d 0 * 16 + d 1) * 256 + (d 2 * 16 + d 3)) * 65536 + ((d 4 * 16 + d 5) * 256 + (d 6 * 16 + d 7)) ≡ number 8 s
-unfolding number
-by-fours d s e = rw e (joined-fours _ _ _ _ _ _ _ _)
+in-digits : (a b c d : ℕ) → (a * 16 + b) * 256 + (c * 16 + d) ≡ (((0 * 16 + a) * 16 + b) * 16 + c) * 16 + d
+in-digits a b c d = omega arith
 
 below-pair : (a b : ℕ) → a < 16 → b < 16 → a * 16 + b < 256
 below-pair a b h l = omega arith
 
-below-four : (a b : ℕ) → a < 256 → b < 256 → a * 256 + b < 65536
-below-four a b h l = omega arith
-
--- what the steps make of eight bytes
-steps-are : (s : List ℕ) → length s ≡ 8 → ((i : ℕ) → getD s i 0 < 256) → (q : ℕ) → q ≡ foursOf (pairsOf (valuesOf (wordOf s)))
-    → (q * 65536 + q / 4294967296) % 4294967296 ≡ number 8 s
-steps-are s long small q is =
-    let d : ℕ → ℕ = λ i. digitValue (getD s i 0) in
-    let past : (i : ℕ) → 8 ≤ i → getD s i 0 ≡ 0 = λ i l. List·getD-eq-default s 0 (omega arith) in
-    let d-small : (i : ℕ) → d i < 16 = λ i. omega arith in
-    let d8 : d 8 ≡ 0 = ap digitValue (past 8 (omega arith)) in
-    let d9 : d 9 ≡ 0 = ap digitValue (past 9 (omega arith)) in
-    let e : ℕ → ℕ = λ j. d (2 * j) * 16 + d (2 * j + 1) in
-    let e-small : (j : ℕ) → e j < 256 = λ j. below-pair (d (2 * j)) (d (2 * j + 1)) (d-small (2 * j)) (d-small (2 * j + 1)) in
-    let e4 : e 4 ≡ 0 = ap₂ (λ (a b : ℕ). a * 16 + b) d8 d9 in
-    let g : ℕ → ℕ = λ j. e (2 * j) * 256 + e (2 * j + 1) in
-    let g-small : (j : ℕ) → g j < 65536 = λ j. below-four (e (2 * j)) (e (2 * j + 1)) (e-small (2 * j)) (e-small (2 * j + 1)) in
-    let v-is = values-are (λ i. getD s i 0) small (past 8 (omega arith)) in
-    let p-is = ap pairsOf v-is ∙ pairs-are d d-small d8 in
-    let q-is : q ≡ lanes 4294967296 g 2 = is ∙ ap foursOf p-is ∙ fours-are e e-small e4 in
-    ap (λ (y : ℕ). (y * 65536 + y / 4294967296) % 4294967296) (q-is ∙ two-lanes g)
-    ∙ last-are (g 1) (g 0) (g-small 1) (g-small 0) ∙ by-fours d s refl
-
--- the bytes of a word, by their places
-byte-at : (x i : ℕ) → i < 8 → getD (bytesOf x) i 0 ≡ x / 256 ^ i % 256
-byte-at x i h = tabulate-at (λ i. x / 256 ^ i % 256) 8 i h
-
-byte-small : (x i : ℕ) → getD (bytesOf x) i 0 < 256
-byte-small x i = ⊎-elim inside outside (lt-or-le i 8)
-  where
-    inside : i < 8 → getD (bytesOf x) i 0 < 256
-    inside l = rw (byte-at x i l) (omega arith)
-
-    outside : 8 ≤ i → getD (bytesOf x) i 0 < 256
-    outside g =
-        let none : getD (bytesOf x) i 0 ≡ 0 = List·getD-eq-default (bytesOf x) 0 (omega (arith, length-tabulate (λ i. x / 256 ^ i % 256) 8)) in
-        omega arith
+-- what the steps make of four bytes
+steps-are : (a b c d : ℕ) → Below 256 a b c d → (p : ℕ) → p ≡ pairsOf (valuesOf (lanes a b c d)) → (p * 256 + p / 65536) % 65536 ≡ number 4 (a ∷ b ∷ c ∷ d ∷ [])
+unfolding number
+steps-are a b c d s p is =
+    let small = digit-below in
+    let p-is = is ∙ ap pairsOf (values-are a b c d s) ∙ pairs-are (digitValue a) (digitValue b) (digitValue c) (digitValue d) (small a, small b, small c, small d) in
+    ap (λ (x : ℕ). (x * 256 + x / 65536) % 65536) p-is
+    ∙ pair-joined (digitValue a * 16 + digitValue b) (digitValue c * 16 + digitValue d) (below-pair (digitValue a) (digitValue b) (small a) (small b)) (below-pair (digitValue c) (digitValue d) (small c) (small d))
+    ∙ in-digits (digitValue a) (digitValue b) (digitValue c) (digitValue d)
 
 -- the steps make of a word the number that its digits stand for
-pub word-steps : (x q : ℕ) → x < 256 ^ 8 → q ≡ foursOf (pairsOf (valuesOf x)) → (q * 65536 + q / 4294967296) % 4294967296 ≡ numberOfWord x
-unfolding numberOfWord
-word-steps x q h is =
-    let whole : wordOf (bytesOf x) ≡ x = lanes-same 256 (λ i. getD (bytesOf x) i 0) (λ i. x / 256 ^ i % 256) 8 (byte-at x) ∙ bytes-whole 8 x h in
-    steps-are (bytesOf x) (length-tabulate (λ i. x / 256 ^ i % 256) 8) (byte-small x) q (rw whole is)
+pub word-steps : (x p : ℕ) → x < 4294967296 → p ≡ pairsOf (valuesOf x) → (p * 256 + p / 65536) % 65536 ≡ numberOfWord x
+word-steps x p h is =
+    let second : x / 256 ≡ x / 65536 * 256 + x / 256 % 256 = omega arith in
+    let third : x / 65536 ≡ x / 16777216 * 256 + x / 65536 % 256 = omega arith in
+    let fourth : x / 16777216 % 256 ≡ x / 16777216 = omega arith in
+    let whole : x ≡ lanes (x % 256) (x / 256 % 256) (x / 65536 % 256) (x / 16777216 % 256) = omega arith in
+    steps-are (x % 256) (x / 256 % 256) (x / 65536 % 256) (x / 16777216 % 256) (omega arith, omega arith, omega arith, omega arith) p (is ∙ ap (λ (y : ℕ). pairsOf (valuesOf y)) whole)
 
--- the word of eight digits gives their number
-pub word-number : (s : List ℕ) → ((i : ℕ) → getD s i 0 < 256) → numberOfWord (wordOf s) ≡ number 8 s
-unfolding numberOfWord
-word-number s small =
-    number-same 8 (bytesOf (wordOf s)) s (λ i l. byte-at (wordOf s) i l ∙ byte-of (λ i. getD s i 0) 8 i small l)
+bytes-of : (a b c d : ℕ) → Below 256 a b c d → bytesOf (lanes a b c d) ≡ a ∷ b ∷ c ∷ d ∷ []
+bytes-of a b c d s =
+    let first : lanes a b c d ≡ (b + c * 256 + d * 65536) * 256 + a = omega arith in
+    let second : lanes a b c d / 256 ≡ b + c * 256 + d * 65536 = omega arith in
+    let third : lanes a b c d / 65536 ≡ c + d * 256 = omega arith in
+    let fourth : lanes a b c d / 16777216 ≡ d = omega arith in
+    let bytes : ((lanes a b c d) % 256 ≡ a) × ((b + c * 256 + d * 65536) % 256 ≡ b) × ((c + d * 256) % 256 ≡ c) × (d % 256 ≡ d) = (omega arith, omega arith, omega arith, omega arith) in
+    rw (second, third, fourth, bytes .0, bytes .1, bytes .2, bytes .3) refl
 
--- the sum that the code makes of eight bytes
-pub word-is : (s : List ℕ) (a : ℕ) {b0 b1 b2 b3 b4 b5 b6 b7 : ℕ}
-    → b0 ≡ getD s a 0 → b1 ≡ getD s (a + 1) 0 → b2 ≡ getD s (a + 2) 0 → b3 ≡ getD s (a + 3) 0
-    → b4 ≡ getD s (a + 4) 0 → b5 ≡ getD s (a + 5) 0 → b6 ≡ getD s (a + 6) 0 → b7 ≡ getD s (a + 7) 0
-    → b0 + b1 * 256 + b2 * 65536 + b3 * 16777216 + b4 * 4294967296 + b5 * 1099511627776 + b6 * 281474976710656 + b7 * 72057594037927936 ≡ wordOf (drop a s)
-unfolding lanes
-word-is s a e0 e1 e2 e3 e4 e5 e6 e7 =
-    let first : a + 0 ≡ a = omega arith in
-    let d0 : getD (drop a s) 0 0 ≡ getD s a 0 = getD-drop a s 0 0 ∙ ap (λ (i : ℕ). getD s i 0) first in
-    omega (arith, d0, getD-drop a s 1 0, getD-drop a s 2 0, getD-drop a s 3 0, getD-drop a s 4 0, getD-drop a s 5 0, getD-drop a s 6 0, getD-drop a s 7 0)
+-- the word of four digits gives their number
+pub word-number : (s : List ℕ) (a : ℕ) → ((i : ℕ) → getD s i 0 < 256) → numberOfWord (wordAt s a) ≡ number 4 (drop a s)
+unfolding number
+word-number s a small =
+    let here : a + 0 ≡ a = omega arith in
+    ap (number 4) (bytes-of (getD s a 0) (getD s (a + 1) 0) (getD s (a + 2) 0) (getD s (a + 3) 0) (small a, small (a + 1), small (a + 2), small (a + 3)))
+    ∙ rw (getD-drop a s 0 0, getD-drop a s 1 0, getD-drop a s 2 0, getD-drop a s 3 0, here) refl
+
+-- two words have eight digits
+pub words-join : (x y : ℕ) → numberOfWord x * 65536 + numberOfWord y ≡ numberOfWords x y
+unfolding number numberOfWords
+words-join x y = sym (number-split 4 4 0 (bytesOf x ++ bytesOf y))
+
+pub words-field : (s : List ℕ) (a : ℕ) → ((i : ℕ) → getD s i 0 < 256) → numberOfWords (wordAt s a) (wordAt s (a + 4)) ≡ field s a 8
+words-field s a small =
+    sym (words-join (wordAt s a) (wordAt s (a + 4))) ∙ ap₂ (λ (x y : ℕ). x * 65536 + y) (word-number s a small) (word-number s (a + 4) small)
+    ∙ sym (number-split 4 4 a s) ∙ sym (field-number s a 8)
+
+-- the word of a part of four bytes
+pub word-part : (s : List ℕ) (a : ℕ) → wordAt (part s a (a + 4)) 0 ≡ wordAt s a
+word-part s a =
+    let here : a + 0 ≡ a = omega arith in
+    let at : (i : ℕ) → i < 4 → getD (part s a (a + 4)) i 0 ≡ getD s (a + i) 0 = λ i l. getD-take (a + 4 - a) (drop a s) i 0 (omega arith) ∙ getD-drop a s i 0 in
+    rw (at 0 (lit< tt), at 1 (lit< tt), at 2 (lit< tt), at 3 (lit< tt), here) refl

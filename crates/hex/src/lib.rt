@@ -5,11 +5,9 @@ mod words;
 mod writer;
 
 pub use line::is_line;
-pub use numbers::number_of_eight;
 pub use numbers::number_of_four;
-pub use numbers::number_of_sixteen;
 pub use numbers::number_of_two;
-pub use words::number_of_word;
+pub use words::number_of_words;
 pub use words::word;
 pub use writer::write_digits;
 

@@ -19,26 +19,14 @@ abbrev μ-loop : tie.MeasureT-loop
 loop-holds : tie.Need-loop-holds Inv-loop μ-loop
 loop-holds c = (search needs, rule-none _ _)
 
-mul-at : tie.Need-mul-at Inv-loop μ-loop
-mul-at c = omega arith
+mul-mark-at : tie.Need-mul-mark-at Inv-loop μ-loop
+mul-mark-at c = omega arith
 
-add-at : tie.Need-add-at Inv-loop μ-loop
-add-at c = omega arith
+add-mark-at : tie.Need-add-mark-at Inv-loop μ-loop
+add-mark-at c = omega arith
 
-add-number-of-sixteen : tie.Need-add-number-of-sixteen Inv-loop μ-loop
-add-number-of-sixteen c = omega arith
-
-sub-number-of-sixteen : tie.Need-sub-number-of-sixteen Inv-loop μ-loop
-sub-number-of-sixteen c = omega arith
-
-part-number-of-sixteen-start : tie.Need-part-number-of-sixteen-start Inv-loop μ-loop
-part-number-of-sixteen-start c = omega arith
-
-part-number-of-sixteen-end : tie.Need-part-number-of-sixteen-end Inv-loop μ-loop
-part-number-of-sixteen-end c = omega arith
-
-number-of-sixteen-requires : tie.Need-number-of-sixteen-requires Inv-loop μ-loop
-number-of-sixteen-requires c κs = search needs
+mark-at-requires : tie.Need-mark-at-requires Inv-loop μ-loop
+mark-at-requires c κs = omega arith
 
 mul-marks : tie.Need-mul-marks Inv-loop μ-loop
 mul-marks c = omega arith
@@ -54,9 +42,9 @@ loop-less c = omega arith
 
 loop-again : tie.Need-loop-again Inv-loop μ-loop
 loop-again c =
-    let at-loop = c .before .before .before in
+    let at-loop = c .before .before in
     let start = at-loop .before .before .before in
-    (omega arith, rule-next (markOf (now (start .args .text))) (at-loop .loop .k) (c .number-of-sixteen .result) (now (start .args .marks)) (at-loop .loop .marks) (omega arith) (at-loop .loop .inv .1) (c .number-of-sixteen .ensures))
+    (omega arith, rule-next (markOf (now (start .args .text))) (at-loop .loop .k) (c .mark-at .result) (now (start .args .marks)) (at-loop .loop .marks) (omega arith) (at-loop .loop .inv .1) (c .mark-at .ensures))
 
 same-length : tie.Need-same-length Inv-loop μ-loop
 same-length c = c .before .loop .inv .1 .kept
@@ -75,13 +63,9 @@ fill-marks-spec =
     Inv-loop
     μ-loop
     loop-holds
-    mul-at
-    add-at
-    add-number-of-sixteen
-    sub-number-of-sixteen
-    part-number-of-sixteen-start
-    part-number-of-sixteen-end
-    number-of-sixteen-requires
+    mul-mark-at
+    add-mark-at
+    mark-at-requires
     mul-marks
     slice-write-marks
     add-k

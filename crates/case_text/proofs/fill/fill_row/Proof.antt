@@ -3,13 +3,11 @@ use mathlib.Core.Path.{ap, _∙_}
 use mathlib.Core.List.{List}
 use Prim.Native.Nat.{ℕ}
 use native.Mathlib.Omega.{arith}
-use lib.ListN.{getD}
 use denote.Ref.{now}
 use Rattle.arithmetic.specs.Lists.{tabulate}
-use Rattle.hex.specs.Words.{numberOfWord}
 use Rattle.case_text.specs.Layout.{columns}
 use Rattle.case_text.specs.Text.{rowOf}
-use Rattle.case_text.proofs.ReadingLaws.{words-counts}
+use Rattle.case_text.proofs.ReadingLaws.{countIn, words-counts}
 use borrow.Author.Needs.{needs}
 use Rattle.case_text.proofs.fill.fill_row.Statement.{statement}
 use Rattle.case_text.proofs.fill.fill_row.Tie as tie
@@ -34,7 +32,7 @@ unfolding rowOf
 returns c =
     let start = c .before .before .before .before .before .before .before .before .before .before in
     c .before .before .fill-words .ensures
-    ∙ ap (λ (ws : List ℕ). tabulate (λ k. numberOfWord (getD ws k 0)) columns) (c .before .before .before .before .before .before .words-of .ensures)
+    ∙ ap (λ (ws : List ℕ). tabulate (countIn ws) columns) (c .before .before .before .before .before .before .words-of .ensures)
     ∙ words-counts (now (start .args .line)) (λ i. omega (arith, c .before .before .before .before .before .before .before .before .before .shared-slice-known .given i))
 
 pub fill-row-spec : {M : Type 1} → statement M

@@ -3,16 +3,15 @@ use borrow.Author.Needs.{needs}
 use native.Mathlib.Omega.{arith}
 use Prim.Native.Nat.{_≤_, _-_}
 use mathlib.Core.Path.{_≡_}
-use lib.ListN.{getD}
 use denote.Ref.{now}
 use Rattle.arithmetic.specs.Lists.{tabulate}
 use Rattle.arithmetic.proofs.PartLaws.{Filled, rule-none, rule-next, filled-all}
-use Rattle.hex.specs.Words.{numberOfWord}
+use Rattle.case_text.proofs.ReadingLaws.{countIn}
 use Rattle.case_text.proofs.fill.fill_words.Statement.{statement}
 use Rattle.case_text.proofs.fill.fill_words.Tie as tie
 
 abbrev Inv-loop : tie.InvT-loop
-Inv-loop words row₀ k₀ row k = (k ≤ 64) × Filled row₀ k (tabulate (λ k. numberOfWord (getD words k 0)) k) row
+Inv-loop words row₀ k₀ row k = (k ≤ 64) × Filled row₀ k (tabulate (countIn words) k) row
 
 abbrev μ-loop : tie.MeasureT-loop
 μ-loop words row₀ k₀ row k = 64 - k
@@ -20,14 +19,29 @@ abbrev μ-loop : tie.MeasureT-loop
 loop-holds : tie.Need-loop-holds Inv-loop μ-loop
 loop-holds c = (search needs, rule-none _ _)
 
-mul-number-of-word : tie.Need-mul-number-of-word Inv-loop μ-loop
-mul-number-of-word c = omega arith
+mul-number-of-words : tie.Need-mul-number-of-words Inv-loop μ-loop
+mul-number-of-words c = omega arith
 
-shared-slice-read-number-of-word : tie.Need-shared-slice-read-number-of-word Inv-loop μ-loop
-shared-slice-read-number-of-word c = omega arith
+mul-number-of-words-2 : tie.Need-mul-number-of-words-2 Inv-loop μ-loop
+mul-number-of-words-2 c = omega arith
 
-number-of-word-requires : tie.Need-number-of-word-requires Inv-loop μ-loop
-number-of-word-requires c κs = search needs
+shared-slice-read-number-of-words : tie.Need-shared-slice-read-number-of-words Inv-loop μ-loop
+shared-slice-read-number-of-words c = omega arith
+
+mul-number-of-words-3 : tie.Need-mul-number-of-words-3 Inv-loop μ-loop
+mul-number-of-words-3 c = omega arith
+
+add-number-of-words : tie.Need-add-number-of-words Inv-loop μ-loop
+add-number-of-words c = omega arith
+
+mul-number-of-words-4 : tie.Need-mul-number-of-words-4 Inv-loop μ-loop
+mul-number-of-words-4 c = omega arith
+
+shared-slice-read-number-of-words-2 : tie.Need-shared-slice-read-number-of-words-2 Inv-loop μ-loop
+shared-slice-read-number-of-words-2 c = omega arith
+
+number-of-words-requires : tie.Need-number-of-words-requires Inv-loop μ-loop
+number-of-words-requires c κs = search needs
 
 mul-row : tie.Need-mul-row Inv-loop μ-loop
 mul-row c = omega arith
@@ -43,9 +57,9 @@ loop-less c = omega arith
 
 loop-again : tie.Need-loop-again Inv-loop μ-loop
 loop-again c =
-    let at-loop = c .before .before .before in
+    let at-loop = c .before .before .before .before in
     let start = at-loop .before .before .before in
-    (omega arith, rule-next (λ k. numberOfWord (getD (now (start .args .words)) k 0)) (at-loop .loop .k) (c .number-of-word .result) (now (start .args .row)) (at-loop .loop .row) (omega arith) (at-loop .loop .inv .1) (c .number-of-word .ensures))
+    (omega arith, rule-next (countIn (now (start .args .words))) (at-loop .loop .k) (c .number-of-words .result) (now (start .args .row)) (at-loop .loop .row) (omega arith) (at-loop .loop .inv .1) (c .number-of-words .ensures))
 
 same-length : tie.Need-same-length Inv-loop μ-loop
 same-length c = c .before .loop .inv .1 .kept
@@ -63,9 +77,14 @@ fill-words-spec =
     Inv-loop
     μ-loop
     loop-holds
-    mul-number-of-word
-    shared-slice-read-number-of-word
-    number-of-word-requires
+    mul-number-of-words
+    mul-number-of-words-2
+    shared-slice-read-number-of-words
+    mul-number-of-words-3
+    add-number-of-words
+    mul-number-of-words-4
+    shared-slice-read-number-of-words-2
+    number-of-words-requires
     mul-row
     slice-write-row
     add-k

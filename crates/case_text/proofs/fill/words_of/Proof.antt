@@ -11,31 +11,19 @@ use Rattle.case_text.proofs.fill.words_of.Statement.{statement}
 use Rattle.case_text.proofs.fill.words_of.Tie as tie
 
 abbrev Inv-loop : tie.InvT-loop
-Inv-loop line words₀ k₀ words k = (k ≤ 64) × Filled words₀ k (tabulate (wordIn line) k) words
+Inv-loop line words₀ i₀ words i = (i ≤ 128) × Filled words₀ i (tabulate (wordIn line) i) words
 
 abbrev μ-loop : tie.MeasureT-loop
-μ-loop line words₀ k₀ words k = 64 - k
+μ-loop line words₀ i₀ words i = 128 - i
 
 loop-holds : tie.Need-loop-holds Inv-loop μ-loop
 loop-holds c = (search needs, rule-none _ _)
 
-mul-at : tie.Need-mul-at Inv-loop μ-loop
-mul-at c = omega arith
+mul-word-at : tie.Need-mul-word-at Inv-loop μ-loop
+mul-word-at c = omega arith
 
-add-word : tie.Need-add-word Inv-loop μ-loop
-add-word c = omega arith
-
-sub-word : tie.Need-sub-word Inv-loop μ-loop
-sub-word c = omega arith
-
-part-word-start : tie.Need-part-word-start Inv-loop μ-loop
-part-word-start c = omega arith
-
-part-word-end : tie.Need-part-word-end Inv-loop μ-loop
-part-word-end c = omega arith
-
-word-requires : tie.Need-word-requires Inv-loop μ-loop
-word-requires c κs = search needs
+word-at-requires : tie.Need-word-at-requires Inv-loop μ-loop
+word-at-requires c κs = omega arith
 
 mul-words : tie.Need-mul-words Inv-loop μ-loop
 mul-words c = omega arith
@@ -43,17 +31,17 @@ mul-words c = omega arith
 slice-write-words : tie.Need-slice-write-words Inv-loop μ-loop
 slice-write-words c = omega arith
 
-add-k : tie.Need-add-k Inv-loop μ-loop
-add-k c = omega arith
+add-i : tie.Need-add-i Inv-loop μ-loop
+add-i c = omega arith
 
 loop-less : tie.Need-loop-less Inv-loop μ-loop
 loop-less c = omega arith
 
 loop-again : tie.Need-loop-again Inv-loop μ-loop
 loop-again c =
-    let at-loop = c .before .before .before in
+    let at-loop = c .before .before in
     let start = at-loop .before .before .before in
-    (omega arith, rule-next (wordIn (now (start .args .line))) (at-loop .loop .k) (c .word .result) (now (start .args .words)) (at-loop .loop .words) (omega arith) (at-loop .loop .inv .1) (c .word .ensures))
+    (omega arith, rule-next (wordIn (now (start .args .line))) (at-loop .loop .i) (c .word-at .result) (now (start .args .words)) (at-loop .loop .words) (omega arith) (at-loop .loop .inv .1) (c .word-at .ensures))
 
 same-length : tie.Need-same-length Inv-loop μ-loop
 same-length c = c .before .loop .inv .1 .kept
@@ -61,7 +49,7 @@ same-length c = c .before .loop .inv .1 .kept
 returns : tie.Need-returns Inv-loop μ-loop
 returns c =
     let start = c .before .before .before .before in
-    let past : c .before .loop .k ≡ 64 = omega arith in
+    let past : c .before .loop .i ≡ 128 = omega arith in
     filled-all (omega (arith, start .pre .1)) (rw past at (c .before .loop .inv .1))
 
 pub words-of-spec : {M : Type 1} → statement M
@@ -71,15 +59,11 @@ words-of-spec =
     Inv-loop
     μ-loop
     loop-holds
-    mul-at
-    add-word
-    sub-word
-    part-word-start
-    part-word-end
-    word-requires
+    mul-word-at
+    word-at-requires
     mul-words
     slice-write-words
-    add-k
+    add-i
     loop-less
     loop-again
     same-length

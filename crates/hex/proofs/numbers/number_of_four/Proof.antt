@@ -1,21 +1,22 @@
 -- `hex::numbers::number_of_four` meets its contract.
+use mathlib.Core.Path.{ap, _∙_}
 use native.Mathlib.Omega.{arith}
-use lib.ListN.{drop}
-use Rattle.hex.proofs.DigitLaws.{number-below, number-split}
+use Rattle.hex.specs.Words.{numberOfWord}
+use Rattle.hex.proofs.WordLaws.{word-number}
 use borrow.Author.Needs.{needs}
 use Rattle.hex.proofs.numbers.number_of_four.Statement.{statement}
 use Rattle.hex.proofs.numbers.number_of_four.Tie as tie
 
-number-of-eight-requires : tie.Need-number-of-eight-requires
-number-of-eight-requires c κs = search needs
+word-requires : tie.Need-word-requires
+word-requires c κs = search needs
 
-cast-result : tie.Need-cast-result
-cast-result c = search needs
+number-of-word-requires : tie.Need-number-of-word-requires
+number-of-word-requires c κs = search needs
 
 returns : tie.Need-returns
 returns c =
-    let s = c .before .before .args .s .now in
-    omega (arith, c .number-of-eight .ensures, number-split 4 4 s, number-below 4 (drop 4 s))
+    c .number-of-word .ensures ∙ ap numberOfWord (c .before .word .ensures)
+    ∙ word-number (c .before .before .before .args .s .now) 0 (λ i. omega (arith, c .before .before .shared-slice-known .given i))
 
 pub number-of-four-spec : {M : Type 1} → statement M
-number-of-four-spec = tie.close (tie.spec number-of-eight-requires cast-result returns)
+number-of-four-spec = tie.close (tie.spec word-requires number-of-word-requires returns)

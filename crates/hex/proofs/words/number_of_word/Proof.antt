@@ -1,7 +1,7 @@
 -- `hex::words::number_of_word` meets its contract.
 use mathlib.Core.Path.{ap, _∙_}
 use native.Mathlib.Omega.{arith}
-use Rattle.hex.specs.Words.{pairsOf, foursOf}
+use Rattle.hex.specs.Words.{pairsOf}
 use Rattle.hex.proofs.WordLaws.{word-steps}
 use borrow.Author.Needs.{needs}
 use Rattle.hex.proofs.words.number_of_word.Statement.{statement}
@@ -12,9 +12,6 @@ values-requires c κs = search needs
 
 pairs-requires : tie.Need-pairs-requires
 pairs-requires c κs = search needs
-
-fours-requires : tie.Need-fours-requires
-fours-requires c κs = search needs
 
 mul-result : tie.Need-mul-result
 mul-result c = search needs
@@ -27,8 +24,8 @@ cast-result c = search needs
 
 returns : tie.Need-returns
 returns c =
-    let steps = c .fours .ensures .0 ∙ ap foursOf (c .before .pairs .ensures .0 ∙ ap pairsOf (c .before .before .values .ensures .0)) in
-    word-steps (c .before .before .before .args .x) (c .fours .result) (omega arith) steps
+    let steps = c .pairs .ensures .0 ∙ ap pairsOf (c .before .values .ensures .0) in
+    word-steps (c .before .before .args .x) (c .pairs .result) (omega arith) steps
 
 pub number-of-word-spec : {M : Type 1} → statement M
 number-of-word-spec =
@@ -36,7 +33,6 @@ number-of-word-spec =
     (tie.spec
     values-requires
     pairs-requires
-    fours-requires
     mul-result
     add-result
     cast-result

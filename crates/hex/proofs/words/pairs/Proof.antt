@@ -13,7 +13,7 @@ add-result : tie.Need-add-result
 add-result c = search needs
 
 returns : tie.Need-returns
-returns c = (refl, and-le-r (c .args .v * 16 + c .args .v / 256) 71777214294589695)
+returns c = (refl, and-le-r (c .args .v * 16 + c .args .v / 256) 16711935)
 
 pub pairs-spec : {M : Type 1} → statement M
 pairs-spec = tie.close (tie.spec mul-result add-result returns)
