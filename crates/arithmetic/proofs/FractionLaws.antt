@@ -44,14 +44,6 @@ pub plus-pos : (a b : Fraction) → 0 < a .den → 0 < b .den → 0 < plus a b .
 unfolding plus
 plus-pos a b h k = mul-pos h k
 
-pub minus-pos : (a b : Fraction) → 0 < a .den → 0 < b .den → 0 < minus a b .den
-unfolding minus
-minus-pos a b h k = mul-pos h k
-
 pub times-pos : (a b : Fraction) → 0 < a .den → 0 < b .den → 0 < times a b .den
 unfolding times
 times-pos a b h k = mul-pos h k
-
-pub divided-pos : (a b : Fraction) → 0 < a .den → 0 < b .num → 0 < divided a b .den
-unfolding divided
-divided-pos a b h k = mul-pos h k

@@ -15,10 +15,6 @@ pub up-high : (a b : ℕ) → 0 < b → a ≤ divUp a b * b
 unfolding divUp
 up-high a b h = omega (arith, lt-div-mul-add {a = a + (b - 1)} h)
 
-pub up-low : (a b : ℕ) → 0 < b → divUp a b * b < a + b
-unfolding divUp
-up-low a b h = omega (arith, div-mul-le-self (a + (b - 1)) b)
-
 -- the quotients' own characterisations: x ≤ a / b and divUp a b ≤ x
 pub le-down : (x a b : ℕ) → 0 < b → x * b ≤ a → x ≤ a / b
 le-down x a b h k = le-div-iff-mul-le h .1 k

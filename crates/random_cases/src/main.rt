@@ -2,6 +2,7 @@
 mod aircraft_kinds;
 mod class_kinds;
 mod kinds;
+mod layout;
 mod map_kinds;
 mod mixed_kinds;
 mod parts;
@@ -14,6 +15,7 @@ mod text_kinds;
 
 use case_text::COUNTS_LENGTH;
 use case_text::MARKS_LENGTH;
+use case_text::TEXT_LENGTH;
 use frame::FRAME_LENGTH;
 use frame::REFUSAL_LENGTH;
 use ground_risk_case::print_case;
@@ -22,11 +24,11 @@ use libc::STDOUT_FILENO;
 use parts::RandomCase;
 use plain::plain_case;
 use random::source_of;
-use text::ROOM;
 use text::write_text;
 ghost use mathlib.Core.Path.{_≡_};
 ghost use Prim.Native.Nat.{_≤_};
 ghost use lib.ListN.{length};
+ghost use Rattle.random_cases.specs.Buffers.{textRoom, countsRoom, footprintRoom, frameRoom};
 
 const CASES: u32 = 2400;
 
@@ -48,7 +50,7 @@ fn at_most(n: u64, most: usize) -> usize
 }
 
 fn write_line(refusal: u8, frame: &[u8])
-    requires { ⌜ length (now frame) ≡ 64 ⌝ }
+    requires { ⌜ length (now frame) ≡ frameRoom ⌝ }
 {
     if refusal == 0 {
         io::write_all(STDOUT_FILENO, &frame[..FRAME_LENGTH]);
@@ -67,10 +69,10 @@ fn print_random_case(
     marks: &mut [u64],
     frame: &mut [u8],
 )
-    requires { ⌜ length (now text) ≡ 33960 ⌝ }
-    requires { ⌜ length (now counts) ≡ 4097 ⌝ }
-    requires { ⌜ length (now marks) ≡ 65 ⌝ }
-    requires { ⌜ length (now frame) ≡ 64 ⌝ }
+    requires { ⌜ length (now text) ≡ textRoom ⌝ }
+    requires { ⌜ length (now counts) ≡ countsRoom ⌝ }
+    requires { ⌜ length (now marks) ≡ footprintRoom ⌝ }
+    requires { ⌜ length (now frame) ≡ frameRoom ⌝ }
 {
     let case = random_case(n);
     write_text(text, case);
@@ -88,7 +90,7 @@ fn print_random_case(
 }
 
 fn main() {
-    let mut text = [0u8; ROOM];
+    let mut text = [0u8; TEXT_LENGTH + 1];
     let mut counts = [0u32; COUNTS_LENGTH + 1];
     let mut marks = [0u64; MARKS_LENGTH + 1];
     let mut frame = [0u8; FRAME_ROOM];

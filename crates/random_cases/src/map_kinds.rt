@@ -1,4 +1,6 @@
 // Kinds 6 to 8, 19 and 23: the counts and the footprint.
+use crate::layout::CELLS;
+use crate::layout::ROWS;
 use crate::parts::RandomCase;
 use crate::random::Draw;
 use crate::random::below;
@@ -57,8 +59,8 @@ pub(crate) fn row_boundaries(plain: RandomCase, i: u64) -> RandomCase {
 pub(crate) fn count_ties(plain: RandomCase, i: u64) -> RandomCase {
     let mut case = with_column(plain, (i % 5) as usize);
     let more = below(case.source, 3);
-    let place_1 = below(more.next, 4096);
-    let place_2 = below(place_1.next, 4096);
+    let place_1 = below(more.next, CELLS);
+    let place_2 = below(place_1.next, CELLS);
     let count = below(place_2.next, 100);
     case.source = count.next;
     case.spread = 1 + more.value;
@@ -83,7 +85,7 @@ pub(crate) fn count_edges(plain: RandomCase, i: u64) -> RandomCase {
     if i / 4 % 2 == 1 {
         with_one_cell(case, case.place_1)
     } else {
-        with_one_cell(case, (case.place_1 + 1 + more.value) % 4096)
+        with_one_cell(case, (case.place_1 + 1 + more.value) % CELLS)
     }
 }
 
@@ -107,8 +109,8 @@ pub(crate) fn footprint_shapes(plain: RandomCase, i: u64) -> RandomCase {
     case.cell_area = 25000000;
     case.mark = 0;
     case.spread = 5000;
-    let row = below(case.source, 64);
-    let place = below(row.next, 4096);
+    let row = below(case.source, ROWS);
+    let place = below(row.next, CELLS);
     case.source = place.next;
     with_shape(case, i % 10, row.value, place.value)
 }
@@ -124,7 +126,7 @@ pub(crate) fn many_people(plain: RandomCase, i: u64) -> RandomCase {
     let mut case = with_block(with_column(plain, (i % 2) as usize), 0, 63, ALL_ONES);
     case.cell_area = 25000000;
     case.mark = 0;
-    let place = below(case.source, 4096);
+    let place = below(case.source, CELLS);
     case.source = place.next;
     let turn = i % 4;
     if turn == 0 {

@@ -1,4 +1,5 @@
 // Kinds 20 and 22: several things wrong, and any numbers.
+use crate::layout::CELLS;
 use crate::parts::RandomCase;
 use crate::random::Draw;
 use crate::random::below;
@@ -18,7 +19,7 @@ pub(crate) fn several_wrong(plain: RandomCase) -> RandomCase {
     let mut case = with_column(calm(plain), 4);
     let a = below(case.source, 256);
     let b = below(a.next, 256);
-    let place = below(b.next, 4096);
+    let place = below(b.next, CELLS);
     case.source = place.next;
     let z = a.value & b.value;
     case.dimension = where_set(z, 1, 49, case.dimension);

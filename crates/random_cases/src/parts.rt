@@ -1,8 +1,5 @@
 // What a random case holds.
 
-// The place of a single count that is put nowhere.
-pub(crate) const NO_PLACE: u64 = 4096;
-
 pub(crate) struct RandomCase {
     // the source after the draws that made the rest
     pub(crate) source: u32,

@@ -1,11 +1,15 @@
 // The plain case.
-use crate::parts::NO_PLACE;
+use crate::layout::CELLS;
+use crate::layout::ROWS;
+use crate::layout::TEXT_END;
 use crate::parts::RandomCase;
 use crate::random::Draw;
 use crate::random::below;
 use crate::random::bits_64;
 use crate::random::from_to;
 use crate::steps::offered_word;
+use frame::FRAME_LENGTH;
+use hex::LINE_END;
 
 const SPREADS: [u64; 7] = [1, 2, 8, 50, 500, 5000, 65536];
 
@@ -101,8 +105,8 @@ pub(crate) fn plain_case(s: u32) -> RandomCase {
     let cell_area = draw_cell_area(speed.next);
     let mark = draw_mark(cell_area.next);
     let word = draw_word(mark.next);
-    let first = below(word.next, 64);
-    let more = below(first.next, 64 - first.value);
+    let first = below(word.next, ROWS);
+    let more = below(first.next, ROWS - first.value);
     let row_marks = bits_64(more.next);
     let spread = draw_spread(row_marks.next);
     RandomCase {
@@ -119,15 +123,15 @@ pub(crate) fn plain_case(s: u32) -> RandomCase {
         drawn_rows: false,
         base: 0,
         spread: spread.value,
-        place_1: NO_PLACE,
+        place_1: CELLS,
         count_1: 0,
-        place_2: NO_PLACE,
+        place_2: CELLS,
         count_2: 0,
-        damage_place: 33959,
-        damage_byte: 10,
-        text_length: 33959,
-        counts_length: 4096,
-        footprint_length: 64,
-        frame_length: 41,
+        damage_place: TEXT_END,
+        damage_byte: LINE_END as u64,
+        text_length: TEXT_END,
+        counts_length: CELLS,
+        footprint_length: ROWS,
+        frame_length: FRAME_LENGTH as u64,
     }
 }

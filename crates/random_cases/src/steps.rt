@@ -1,4 +1,5 @@
 // Steps that kinds share.
+use crate::layout::CELLS;
 use crate::parts::RandomCase;
 use crate::random::below;
 use crate::tables::COLUMNS;
@@ -69,7 +70,7 @@ pub(crate) fn with_drawn_place(before: RandomCase) -> RandomCase
     ensures { λ r. ⌜ r .place_1 < 4096 ⌝ }
 {
     let mut case = before;
-    let place = below(case.source, 4096);
+    let place = below(case.source, CELLS);
     case.source = place.next;
     case.place_1 = place.value;
     case

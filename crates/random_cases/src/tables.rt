@@ -9,54 +9,53 @@ pub(crate) const COLUMNS: [[u32; 3]; 5] = [
     [40000, 5000000, 20000],
 ];
 
-// The fields that the edge table names.
-pub(crate) const EDGE_OF_DIMENSION: u32 = 0;
-
-pub(crate) const EDGE_OF_MASS: u32 = 1;
-
-pub(crate) const EDGE_OF_SPEED: u32 = 2;
-
-pub(crate) const EDGE_OF_CELL_AREA: u32 = 3;
-
-// A field, and its value at or beside an edge of its range.
-pub(crate) const EDGES: [[u32; 2]; 36] = [
-    [EDGE_OF_DIMENSION, 0],
-    [EDGE_OF_DIMENSION, 49],
-    [EDGE_OF_DIMENSION, 50],
-    [EDGE_OF_DIMENSION, 51],
-    [EDGE_OF_DIMENSION, 999],
-    [EDGE_OF_DIMENSION, 1000],
-    [EDGE_OF_DIMENSION, 1001],
-    [EDGE_OF_DIMENSION, 7999],
-    [EDGE_OF_DIMENSION, 8000],
-    [EDGE_OF_DIMENSION, 8001],
-    [EDGE_OF_DIMENSION, 99999],
-    [EDGE_OF_DIMENSION, 100000],
-    [EDGE_OF_DIMENSION, 100001],
-    [EDGE_OF_DIMENSION, 4294967295],
-    [EDGE_OF_MASS, 0],
-    [EDGE_OF_MASS, 49],
-    [EDGE_OF_MASS, 50],
-    [EDGE_OF_MASS, 51],
-    [EDGE_OF_MASS, 24999999],
-    [EDGE_OF_MASS, 25000000],
-    [EDGE_OF_MASS, 25000001],
-    [EDGE_OF_MASS, 4294967295],
-    [EDGE_OF_SPEED, 0],
-    [EDGE_OF_SPEED, 1],
-    [EDGE_OF_SPEED, 39999],
-    [EDGE_OF_SPEED, 40000],
-    [EDGE_OF_SPEED, 40001],
-    [EDGE_OF_SPEED, 4294967295],
-    [EDGE_OF_CELL_AREA, 0],
-    [EDGE_OF_CELL_AREA, 99],
-    [EDGE_OF_CELL_AREA, 100],
-    [EDGE_OF_CELL_AREA, 101],
-    [EDGE_OF_CELL_AREA, 24999999],
-    [EDGE_OF_CELL_AREA, 25000000],
-    [EDGE_OF_CELL_AREA, 25000001],
-    [EDGE_OF_CELL_AREA, 4294967295],
+// Values at and beside the edges of the ranges: of the dimension, of the mass from entry 14 on, of the speed from 22 on, of the cell area
+// from 28 on.
+pub(crate) const EDGES: [u64; 36] = [
+    0,
+    49,
+    50,
+    51,
+    999,
+    1000,
+    1001,
+    7999,
+    8000,
+    8001,
+    99999,
+    100000,
+    100001,
+    4294967295,
+    0,
+    49,
+    50,
+    51,
+    24999999,
+    25000000,
+    25000001,
+    4294967295,
+    0,
+    1,
+    39999,
+    40000,
+    40001,
+    4294967295,
+    0,
+    99,
+    100,
+    101,
+    24999999,
+    25000000,
+    25000001,
+    4294967295,
 ];
+
+// Where the edges of the mass, the speed and the cell area start.
+pub(crate) const MASS_EDGES: u64 = 14;
+
+pub(crate) const SPEED_EDGES: u64 = 22;
+
+pub(crate) const CELL_AREA_EDGES: u64 = 28;
 
 // Dimension, mass and speed of aircraft whose sheet is flagged.
 pub(crate) const FLAGGED: [[u32; 3]; 48] = [

@@ -1,51 +1,52 @@
 // The text of a random case.
+use crate::layout::CELLS;
+use crate::layout::HEAD_END;
+use crate::layout::ROWS;
+use crate::layout::TEXT_END;
+use crate::layout::TEXT_ROOM;
+use crate::layout::count_place;
+use crate::layout::footprint_place;
 use crate::parts::RandomCase;
 use crate::random::Draw;
 use crate::random::below;
 use crate::random::bits_64;
-use case_text::COUNTS_LENGTH;
-use case_text::MARKS_LENGTH;
-use case_text::TEXT_LENGTH;
 use hex::LINE_END;
 use hex::write_digits;
 ghost use mathlib.Core.Path.{_≡_};
 ghost use Prim.Native.Nat.{_+_, _≤_, _<_};
 ghost use lib.ListN.{length};
+ghost use Rattle.random_cases.specs.Buffers.{textRoom};
 
-// The buffer for a text and one byte more.
-pub(crate) const ROOM: usize = TEXT_LENGTH + 1;
-
-// Where line 1 ends, where the footprint's lines start, and how long each is with its line end; the same of the counts.
-const HEAD_END: usize = 38;
-
-const MARKS: usize = 39;
-
-const MARK_LINE: usize = 17;
-
-const COUNTS: usize = 1127;
-
-const COUNT_LINE: usize = 513;
-
-fn write_number(text: &mut [u8], at: usize, digits: usize, value: u64)
-    requires { ⌜ length (now text) ≡ 33960 ⌝ }
-    requires { ⌜ at + digits ≤ 33960 ⌝ }
-    ensures { λ _. ⌜ length (now (text .exit)) ≡ 33960 ⌝ }
+fn write_number(text: &mut [u8], at: u64, digits: u64, value: u64)
+    requires { ⌜ length (now text) ≡ textRoom ⌝ }
+    requires { ⌜ at + digits ≤ textRoom ⌝ }
+    ensures { λ _. ⌜ length (now (text .exit)) ≡ textRoom ⌝ }
 {
-    write_digits(&mut text[at..at + digits], value);
+    let start = at as usize;
+    let end = (at + digits) as usize;
+    write_digits(&mut text[start..end], value);
 }
 
-// Line 1. The line end is written first: the length after a call is what the proof finds by itself.
-fn write_head(text: &mut [u8], case: RandomCase)
-    requires { ⌜ length (now text) ≡ 33960 ⌝ }
-    ensures { λ _. ⌜ length (now (text .exit)) ≡ 33960 ⌝ }
+fn write_byte(text: &mut [u8], at: u64, byte: u8)
+    requires { ⌜ length (now text) ≡ textRoom ⌝ }
+    requires { ⌜ at < textRoom ⌝ }
+    ensures { λ _. ⌜ length (now (text .exit)) ≡ textRoom ⌝ }
 {
-    text[HEAD_END] = LINE_END;
+    text[at as usize] = byte;
+}
+
+// Line 1.
+fn write_head(text: &mut [u8], case: RandomCase)
+    requires { ⌜ length (now text) ≡ textRoom ⌝ }
+    ensures { λ _. ⌜ length (now (text .exit)) ≡ textRoom ⌝ }
+{
     write_number(text, 0, 8, case.dimension);
     write_number(text, 8, 8, case.mass);
     write_number(text, 16, 8, case.speed);
     write_number(text, 24, 8, case.cell_area);
     write_number(text, 32, 2, case.mark);
     write_number(text, 34, 4, case.word);
+    write_byte(text, HEAD_END, LINE_END);
 }
 
 // The marks of a footprint row.
@@ -64,17 +65,16 @@ fn draw_row(case: RandomCase, s: u32, row: u64) -> Draw {
 
 // The answer is the source after the rows.
 fn write_rows(text: &mut [u8], case: RandomCase) -> u32
-    requires { ⌜ length (now text) ≡ 33960 ⌝ }
-    ensures { λ _. ⌜ length (now (text .exit)) ≡ 33960 ⌝ }
+    requires { ⌜ length (now text) ≡ textRoom ⌝ }
+    ensures { λ _. ⌜ length (now (text .exit)) ≡ textRoom ⌝ }
 {
     let mut source = case.source;
     let mut row = 0;
-    while row < MARKS_LENGTH {
-        let marks = draw_row(case, source, row as u64);
+    while row < ROWS {
+        let marks = draw_row(case, source, row);
         source = marks.next;
-        let at = MARKS + MARK_LINE * row;
-        write_number(text, at, 16, marks.value);
-        text[at + 16] = LINE_END;
+        write_number(text, footprint_place(row, 0), 16, marks.value);
+        write_byte(text, footprint_place(row, 16), LINE_END);
         row += 1;
     }
     source
@@ -95,27 +95,23 @@ fn draw_count(s: u32, base: u32, spread: u64) -> Draw {
     }
 }
 
-fn write_count(text: &mut [u8], place: usize, count: u64)
-    requires { ⌜ length (now text) ≡ 33960 ⌝ }
-    ensures { λ _. ⌜ length (now (text .exit)) ≡ 33960 ⌝ }
+// A count at a place of the map; nothing where it has no such place.
+fn write_count(text: &mut [u8], place: u64, count: u64)
+    requires { ⌜ length (now text) ≡ textRoom ⌝ }
+    ensures { λ _. ⌜ length (now (text .exit)) ≡ textRoom ⌝ }
 {
-    if place < COUNTS_LENGTH {
-        write_number(
-            text,
-            COUNTS + COUNT_LINE * (place / 64) + 8 * (place % 64),
-            8,
-            count,
-        );
+    if place < CELLS {
+        write_number(text, count_place(place / 64, 8 * (place % 64)), 8, count);
     }
 }
 
 fn write_counts(text: &mut [u8], s: u32, base: u32, spread: u64)
-    requires { ⌜ length (now text) ≡ 33960 ⌝ }
-    ensures { λ _. ⌜ length (now (text .exit)) ≡ 33960 ⌝ }
+    requires { ⌜ length (now text) ≡ textRoom ⌝ }
+    ensures { λ _. ⌜ length (now (text .exit)) ≡ textRoom ⌝ }
 {
     let mut source = s;
     let mut place = 0;
-    while place < COUNTS_LENGTH {
+    while place < CELLS {
         let count = draw_count(source, base, spread);
         source = count.next;
         write_count(text, place, count.value);
@@ -124,36 +120,36 @@ fn write_counts(text: &mut [u8], s: u32, base: u32, spread: u64)
 }
 
 fn write_count_line_ends(text: &mut [u8])
-    requires { ⌜ length (now text) ≡ 33960 ⌝ }
-    ensures { λ _. ⌜ length (now (text .exit)) ≡ 33960 ⌝ }
+    requires { ⌜ length (now text) ≡ textRoom ⌝ }
+    ensures { λ _. ⌜ length (now (text .exit)) ≡ textRoom ⌝ }
 {
     let mut row = 0;
-    while row < MARKS_LENGTH {
-        text[COUNTS + COUNT_LINE * row + 512] = LINE_END;
+    while row < ROWS {
+        write_byte(text, count_place(row, 512), LINE_END);
         row += 1;
     }
 }
 
-fn damage(text: &mut [u8], place: usize, byte: u64)
-    requires { ⌜ length (now text) ≡ 33960 ⌝ }
-    ensures { λ _. ⌜ length (now (text .exit)) ≡ 33960 ⌝ }
+fn damage(text: &mut [u8], place: u64, byte: u64)
+    requires { ⌜ length (now text) ≡ textRoom ⌝ }
+    ensures { λ _. ⌜ length (now (text .exit)) ≡ textRoom ⌝ }
 {
-    if place < ROOM {
-        text[place] = (byte % 256) as u8;
+    if place < TEXT_ROOM {
+        write_byte(text, place, (byte % 256) as u8);
     }
 }
 
 // The text of the case, one more line end after it, and the damage.
 pub(crate) fn write_text(text: &mut [u8], case: RandomCase)
-    requires { ⌜ length (now text) ≡ 33960 ⌝ }
-    ensures { λ _. ⌜ length (now (text .exit)) ≡ 33960 ⌝ }
+    requires { ⌜ length (now text) ≡ textRoom ⌝ }
+    ensures { λ _. ⌜ length (now (text .exit)) ≡ textRoom ⌝ }
 {
     write_head(text, case);
     let source = write_rows(text, case);
     write_counts(text, source, case.base, case.spread);
     write_count_line_ends(text);
-    write_count(text, case.place_1 as usize, case.count_1);
-    write_count(text, case.place_2 as usize, case.count_2);
-    text[TEXT_LENGTH] = LINE_END;
-    damage(text, case.damage_place as usize, case.damage_byte);
+    write_count(text, case.place_1, case.count_1);
+    write_count(text, case.place_2, case.count_2);
+    write_byte(text, TEXT_END, LINE_END);
+    damage(text, case.damage_place, case.damage_byte);
 }

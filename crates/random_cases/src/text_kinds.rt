@@ -1,4 +1,9 @@
 // Kinds 14 to 18 and 21: damaged texts, and lengths.
+use crate::layout::HEAD_END;
+use crate::layout::ROWS;
+use crate::layout::TEXT_END;
+use crate::layout::count_place;
+use crate::layout::footprint_place;
 use crate::parts::RandomCase;
 use crate::random::Draw;
 use crate::random::below;
@@ -31,19 +36,19 @@ const NO_LINE_ENDS: [u64; 19] = [
 // The place of a digit in line 1, in the footprint or in the counts.
 fn draw_digit_place(s: u32, turn: u64) -> Draw {
     if turn == 0 {
-        return below(s, 38);
+        return below(s, HEAD_END);
     }
-    let line = below(s, 64);
+    let row = below(s, ROWS);
     if turn == 1 {
-        let digit = below(line.next, 16);
+        let digit = below(row.next, 16);
         Draw {
-            value: 39 + 17 * line.value + digit.value,
+            value: footprint_place(row.value, digit.value),
             next: digit.next,
         }
     } else {
-        let digit = below(line.next, 512);
+        let digit = below(row.next, 512);
         Draw {
-            value: 1127 + 513 * line.value + digit.value,
+            value: count_place(row.value, digit.value),
             next: digit.next,
         }
     }
@@ -59,18 +64,18 @@ pub(crate) fn wrong_digit(plain: RandomCase, i: u64) -> RandomCase {
     case
 }
 
-// The place of a line end.
-fn line_end(turn: u64, line: u64) -> u64
-    requires { ⌜ line < 64 ⌝ }
+// The place of a line end: of line 1, of a footprint line, of a line of counts, or of the last.
+fn line_end(turn: u64, row: u64) -> u64
+    requires { ⌜ row < 64 ⌝ }
 {
     if turn == 0 {
-        38
+        HEAD_END
     } else if turn == 1 {
-        55 + 17 * line
+        footprint_place(row, 16)
     } else if turn == 2 {
-        1639 + 513 * line
+        count_place(row, 512)
     } else {
-        33958
+        count_place(63, 512)
     }
 }
 
@@ -78,25 +83,25 @@ pub(crate) fn wrong_line_end(plain: RandomCase, i: u64) -> RandomCase {
     let mut case = plain;
     let entry = (i % 19) as usize;
     case.damage_byte = NO_LINE_ENDS[entry];
-    let line = below(case.source, 64);
-    case.source = line.next;
-    case.damage_place = line_end(i / 19 % 4, line.value);
+    let row = below(case.source, ROWS);
+    case.source = row.next;
+    case.damage_place = line_end(i / 19 % 4, row.value);
     case
 }
 
 fn length_given(turn: u64, drawn: u64) -> u64 {
     match turn {
         0 => 0,
-        1 => 33958,
-        2 => 33960,
+        1 => TEXT_END - 1,
+        2 => TEXT_END + 1,
         3 => drawn,
-        _ => 33959,
+        _ => TEXT_END,
     }
 }
 
 pub(crate) fn text_lengths(plain: RandomCase, i: u64) -> RandomCase {
     let mut case = plain;
-    let drawn = below(case.source, 33959);
+    let drawn = below(case.source, TEXT_END);
     case.source = drawn.next;
     case.text_length = length_given(i % 5, drawn.value);
     if 50 <= i {
@@ -106,29 +111,22 @@ pub(crate) fn text_lengths(plain: RandomCase, i: u64) -> RandomCase {
     case
 }
 
-// Lengths of the count and the footprint buffer.
-const BUFFER_LENGTHS: [[u64; 2]; 8] = [
-    [0, 64],
-    [4095, 64],
-    [4097, 64],
-    [4096, 0],
-    [4096, 63],
-    [4096, 65],
-    [4095, 65],
-    [4096, 64],
-];
+// Lengths of the count buffer, and with each the length of the footprint buffer.
+const COUNTS_LENGTHS: [u64; 8] = [0, 4095, 4097, 4096, 4096, 4096, 4095, 4096];
+
+const FOOTPRINT_LENGTHS: [u64; 8] = [64, 64, 64, 0, 63, 65, 65, 64];
 
 pub(crate) fn buffer_lengths(plain: RandomCase, i: u64) -> RandomCase {
     let mut case = plain;
     let entry = (i % 8) as usize;
-    case.counts_length = BUFFER_LENGTHS[entry][0];
-    case.footprint_length = BUFFER_LENGTHS[entry][1];
+    case.counts_length = COUNTS_LENGTHS[entry];
+    case.footprint_length = FOOTPRINT_LENGTHS[entry];
     if 40 <= i {
-        case.damage_place = 33958;
+        case.damage_place = TEXT_END - 1;
         case.damage_byte = 48;
     }
     if 80 <= i {
-        case.text_length = 33958;
+        case.text_length = TEXT_END - 1;
     }
     case
 }
@@ -158,7 +156,7 @@ pub(crate) fn frame_lengths(plain: RandomCase, i: u64) -> RandomCase {
 
 pub(crate) fn any_byte(plain: RandomCase) -> RandomCase {
     let mut case = plain;
-    let place = below(case.source, 33959);
+    let place = below(case.source, TEXT_END);
     let byte = below(place.next, 256);
     case.source = byte.next;
     case.damage_place = place.value;

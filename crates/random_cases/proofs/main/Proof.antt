@@ -2,12 +2,13 @@
 use Prim.Native.Nat.{_≤_, _-_}
 use mathlib.Core.Path.{_≡_}
 use lib.ListN.{length}
+use Rattle.random_cases.specs.Buffers.{textRoom, countsRoom, footprintRoom, frameRoom}
 use borrow.Author.Needs.{needs}
 use Rattle.random_cases.proofs.main.Statement.{statement}
 use Rattle.random_cases.proofs.main.Tie as tie
 
 abbrev Inv-loop : tie.InvT-loop
-Inv-loop text₀ counts₀ marks₀ frame₀ n₀ text counts marks frame n = (n ≤ 2400) × (length text ≡ 33960) × (length counts ≡ 4097) × (length marks ≡ 65) × (length frame ≡ 64)
+Inv-loop text₀ counts₀ marks₀ frame₀ n₀ text counts marks frame n = (n ≤ 2400) × (length text ≡ textRoom) × (length counts ≡ countsRoom) × (length marks ≡ footprintRoom) × (length frame ≡ frameRoom)
 
 abbrev μ-loop : tie.MeasureT-loop
 μ-loop text₀ counts₀ marks₀ frame₀ n₀ text counts marks frame n = 2400 - n

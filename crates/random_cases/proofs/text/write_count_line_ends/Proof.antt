@@ -1,13 +1,14 @@
--- The text keeps its length, and each place written is within it.
-use borrow.Author.Needs.{needs}
+-- Each line end is within the text, which keeps its length.
 use Prim.Native.Nat.{_≤_, _-_}
 use mathlib.Core.Path.{_≡_}
 use lib.ListN.{length}
+use Rattle.random_cases.specs.Buffers.{textRoom}
+use borrow.Author.Needs.{needs}
 use Rattle.random_cases.proofs.text.write_count_line_ends.Statement.{statement}
 use Rattle.random_cases.proofs.text.write_count_line_ends.Tie as tie
 
 abbrev Inv-loop : tie.InvT-loop
-Inv-loop text₀ row₀ text row = (row ≤ 64) × (length text ≡ 33960)
+Inv-loop text₀ row₀ text row = (row ≤ 64) × (length text ≡ textRoom)
 
 abbrev μ-loop : tie.MeasureT-loop
 μ-loop text₀ row₀ text row = 64 - row
@@ -15,17 +16,11 @@ abbrev μ-loop : tie.MeasureT-loop
 loop-holds : tie.Need-loop-holds Inv-loop μ-loop
 loop-holds c = search needs
 
-mul-text : tie.Need-mul-text Inv-loop μ-loop
-mul-text c = search needs
+count-place-requires : tie.Need-count-place-requires Inv-loop μ-loop
+count-place-requires c κs = search needs
 
-add-text : tie.Need-add-text Inv-loop μ-loop
-add-text c = search needs
-
-add-text-2 : tie.Need-add-text-2 Inv-loop μ-loop
-add-text-2 c = search needs
-
-slice-write-text : tie.Need-slice-write-text Inv-loop μ-loop
-slice-write-text c = search needs
+write-byte-requires : tie.Need-write-byte-requires Inv-loop μ-loop
+write-byte-requires c κs = search needs
 
 add-row : tie.Need-add-row Inv-loop μ-loop
 add-row c = search needs
@@ -49,10 +44,8 @@ write-count-line-ends-spec =
     Inv-loop
     μ-loop
     loop-holds
-    mul-text
-    add-text
-    add-text-2
-    slice-write-text
+    count-place-requires
+    write-byte-requires
     add-row
     loop-less
     loop-again

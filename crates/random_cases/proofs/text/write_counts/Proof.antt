@@ -1,13 +1,14 @@
--- The text keeps its length, and each place written is within it.
-use borrow.Author.Needs.{needs}
+-- The text keeps its length while its counts are written.
 use Prim.Native.Nat.{_≤_, _-_}
 use mathlib.Core.Path.{_≡_}
 use lib.ListN.{length}
+use Rattle.random_cases.specs.Buffers.{textRoom}
+use borrow.Author.Needs.{needs}
 use Rattle.random_cases.proofs.text.write_counts.Statement.{statement}
 use Rattle.random_cases.proofs.text.write_counts.Tie as tie
 
 abbrev Inv-loop : tie.InvT-loop
-Inv-loop text₀ s base spread source₀ place₀ text source place = (place ≤ 4096) × (length text ≡ 33960)
+Inv-loop text₀ s base spread source₀ place₀ text source place = (place ≤ 4096) × (length text ≡ textRoom)
 
 abbrev μ-loop : tie.MeasureT-loop
 μ-loop text₀ s base spread source₀ place₀ text source place = 4096 - place

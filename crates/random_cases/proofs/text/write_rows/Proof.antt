@@ -1,13 +1,14 @@
--- The text keeps its length, and each place written is within it.
-use borrow.Author.Needs.{needs}
+-- Each footprint line is within the text, which keeps its length.
 use Prim.Native.Nat.{_≤_, _-_}
 use mathlib.Core.Path.{_≡_}
 use lib.ListN.{length}
+use Rattle.random_cases.specs.Buffers.{textRoom}
+use borrow.Author.Needs.{needs}
 use Rattle.random_cases.proofs.text.write_rows.Statement.{statement}
 use Rattle.random_cases.proofs.text.write_rows.Tie as tie
 
 abbrev Inv-loop : tie.InvT-loop
-Inv-loop text₀ case source₀ row₀ text source row = (row ≤ 64) × (length text ≡ 33960)
+Inv-loop text₀ case source₀ row₀ text source row = (row ≤ 64) × (length text ≡ textRoom)
 
 abbrev μ-loop : tie.MeasureT-loop
 μ-loop text₀ case source₀ row₀ text source row = 64 - row
@@ -18,20 +19,17 @@ loop-holds c = search needs
 draw-row-requires : tie.Need-draw-row-requires Inv-loop μ-loop
 draw-row-requires c κs = search needs
 
-mul-at : tie.Need-mul-at Inv-loop μ-loop
-mul-at c = search needs
-
-add-at : tie.Need-add-at Inv-loop μ-loop
-add-at c = search needs
+footprint-place-requires : tie.Need-footprint-place-requires Inv-loop μ-loop
+footprint-place-requires c κs = search needs
 
 write-number-requires : tie.Need-write-number-requires Inv-loop μ-loop
 write-number-requires c κs = search needs
 
-add-text : tie.Need-add-text Inv-loop μ-loop
-add-text c = search needs
+footprint-place-requires-2 : tie.Need-footprint-place-requires-2 Inv-loop μ-loop
+footprint-place-requires-2 c κs = search needs
 
-slice-write-text : tie.Need-slice-write-text Inv-loop μ-loop
-slice-write-text c = search needs
+write-byte-requires : tie.Need-write-byte-requires Inv-loop μ-loop
+write-byte-requires c κs = search needs
 
 add-row : tie.Need-add-row Inv-loop μ-loop
 add-row c = search needs
@@ -56,11 +54,10 @@ write-rows-spec =
     μ-loop
     loop-holds
     draw-row-requires
-    mul-at
-    add-at
+    footprint-place-requires
     write-number-requires
-    add-text
-    slice-write-text
+    footprint-place-requires-2
+    write-byte-requires
     add-row
     loop-less
     loop-again
