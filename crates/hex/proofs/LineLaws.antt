@@ -1,15 +1,15 @@
 -- Laws of lines: what is written in digits with a line end is a line, and what a line is made of.
-use mathlib.Core.Path.{_≡_, refl, ap, sym, _∙_}
-use mathlib.Core.Bool.{true}
+use mathlib.Core.Path.{_≡_, refl, ap, ap₂, sym, _∙_}
+use mathlib.Core.Bool.{Bool, true, false, Bool·beq, _&&_}
 use mathlib.Core.List.{List, [], _∷_, _++_}
-use Prim.Native.Nat.{ℕ, zero, suc, _+_, _-_, _/_, _%_, _^_, _<_, _≤_}
+use Prim.Native.Nat.{ℕ, zero, suc, _+_, _-_, _/_, _%_, _^_, _<_, _≤_, min, max}
 use native.Mathlib.Omega.{arith}
-use lib.Dec.{eqb}
+use lib.Dec.{eqb, leb}
 use lib.ListN.{length, getD, take, drop, length-append, length-take, length-drop, List·getD-append}
 use lib.Seq.{take-all, getD-at, getD-take, getD-drop, drop-cons}
-use borrow.Author.Tests.{eqb-true}
+use borrow.Author.Tests.{eqb-true, le-leb, lt-leb, leb-true, leb-false}
 use Rattle.arithmetic.specs.Lists.{every, joined}
-use Rattle.arithmetic.proofs.TestLaws.{both}
+use Rattle.arithmetic.proofs.TestLaws.{both, all-below}
 use Rattle.arithmetic.proofs.ListLaws.{every-at, every-all}
 use Rattle.arithmetic.proofs.PartLaws.{PartIs, within}
 use Rattle.hex.specs.Digits.{isDigit, digitOf, number, digits, field, isLine, lineEnd}
@@ -79,6 +79,35 @@ field-is s a k h p =
       is = sym (ap (digits k) (field-part s a k) ∙ back);
       long = length-digits k (field s a k);
     }
+
+-- the test of a byte by its offset
+
+abbrev offset : ℕ → ℕ
+offset b = min (max ((b + 208) % 256) 4 - 4) ((b + 159) % 256)
+
+-- at most 5 of a digit alone, computed over all bytes
+pub offset-digit : (b figure letter r : ℕ) → b < 256 → figure < 256 → letter < 256 → (figure + 48) % 256 ≡ b → (letter + 97) % 256 ≡ b
+    → r ≡ min (max figure 4 - 4) letter → leb r 5 ≡ isDigit b
+offset-digit b figure letter r h f l e d is =
+    let figure-is : figure ≡ (b + 208) % 256 = omega arith in
+    let letter-is : letter ≡ (b + 159) % 256 = omega arith in
+    let r-is : r ≡ offset b = is ∙ ap₂ (λ (x y : ℕ). min (max x 4 - 4) y) figure-is letter-is in
+    ap (λ (x : ℕ). leb x 5) r-is ∙ same (leb (offset b) 5) (isDigit b) (all-below (λ b. Bool·beq (leb (offset b) 5) (isDigit b)) 256 refl b h)
+  where
+    same : (s t : Bool) → Bool·beq s t ≡ true → s ≡ t
+    same true true e = refl
+    same true false e = sym e
+    same false true e = e
+    same false false e = refl
+
+-- the larger of two is within a bound that both keep
+pub max-within : (a b k : ℕ) → leb (max a b) k ≡ leb a k && leb b k
+max-within a b k = by-tests (leb a k) (leb b k) refl refl
+  where
+    by-tests : (s t : Bool) → leb a k ≡ s → leb b k ≡ t → leb (max a b) k ≡ s && t
+    by-tests true true p q = le-leb (max a b) k (omega (arith, leb-true a k p, leb-true b k q))
+    by-tests true false p q = lt-leb (max a b) k (omega (arith, leb-false b k q))
+    by-tests false t p q = lt-leb (max a b) k (omega (arith, leb-false a k p))
 
 -- a line
 

@@ -1,7 +1,7 @@
 -- Four digits in the lanes of one number become the number that they stand for.
 use mathlib.Core.Path.{_≡_, refl, sym, ap, ap₂, _∙_}
 use mathlib.Core.List.{List, [], _∷_, _++_}
-use Prim.Native.Nat.{ℕ, _+_, _-_, _*_, _/_, _%_, _^_, _<_}
+use Prim.Native.Nat.{ℕ, _+_, _-_, _*_, _/_, _%_, _^_, _<_, _≤_}
 use native.Mathlib.Omega.{arith}
 use lib.Bits.{bitAnd, and-block, and-mask, and-zero-r}
 use lib.Dec.{lit<}
@@ -40,20 +40,28 @@ shifted a b c d s = omega arith
 letter : (a b : ℕ) → (a / 64 + 4 * (b % 64)) % 2 ≡ a / 64 % 2
 letter a b = omega arith
 
+less : (a : ℕ) → 7 * (a / 64 % 2) ≤ a
+less a = omega arith
+
+-- seven less for a letter is nine more
+digit-is : (a : ℕ) → (a - 7 * (a / 64 % 2)) % 16 ≡ digitValue a
+digit-is a = omega arith
+
 -- the value of the digit in each byte
 values-are : (a b c d : ℕ) → Below 256 a b c d → valuesOf (lanes a b c d) ≡ lanes (digitValue a) (digitValue b) (digitValue c) (digitValue d)
 values-are a b c d s =
-    let low = lanes-mask 4 a b c d s (lit< tt) in
     let letters : bitAnd (lanes a b c d / 64) 16843009 ≡ lanes (a / 64 % 2) (b / 64 % 2) (c / 64 % 2) (d / 64 % 2) =
     ap (λ (x : ℕ). bitAnd x 16843009) (shifted a b c d s)
     ∙ lanes-mask 1 (a / 64 + 4 * (b % 64)) (b / 64 + 4 * (c % 64)) (c / 64 + 4 * (d % 64)) (d / 64) (omega arith, omega arith, omega arith, omega arith) (lit< tt)
     ∙ rw (letter a b, letter b c, letter c d) refl in
-    ap₂ (λ (x y : ℕ). bitAnd (x + 9 * y) 252645135) low letters
-    ∙ ap (λ (x : ℕ). bitAnd x 252645135) (sum (a % 16) (b % 16) (c % 16) (d % 16) (a / 64 % 2) (b / 64 % 2) (c / 64 % 2) (d / 64 % 2))
-    ∙ lanes-mask 4 (a % 16 + 9 * (a / 64 % 2)) (b % 16 + 9 * (b / 64 % 2)) (c % 16 + 9 * (c / 64 % 2)) (d % 16 + 9 * (d / 64 % 2)) (omega arith, omega arith, omega arith, omega arith) (lit< tt)
+    ap (λ (x : ℕ). bitAnd (lanes a b c d - 7 * x) 252645135) letters
+    ∙ ap (λ (x : ℕ). bitAnd x 252645135) (difference a b c d (a / 64 % 2) (b / 64 % 2) (c / 64 % 2) (d / 64 % 2) (less a) (less b) (less c) (less d))
+    ∙ lanes-mask 4 (a - 7 * (a / 64 % 2)) (b - 7 * (b / 64 % 2)) (c - 7 * (c / 64 % 2)) (d - 7 * (d / 64 % 2)) (omega arith, omega arith, omega arith, omega arith) (lit< tt)
+    ∙ rw (digit-is a, digit-is b, digit-is c, digit-is d) refl
   where
-    sum : (a b c d i j k l : ℕ) → lanes a b c d + 9 * lanes i j k l ≡ lanes (a + 9 * i) (b + 9 * j) (c + 9 * k) (d + 9 * l)
-    sum a b c d i j k l = omega arith
+    difference : (a b c d i j k l : ℕ) → 7 * i ≤ a → 7 * j ≤ b → 7 * k ≤ c → 7 * l ≤ d
+        → lanes a b c d - 7 * lanes i j k l ≡ lanes (a - 7 * i) (b - 7 * j) (c - 7 * k) (d - 7 * l)
+    difference a b c d i j k l p q r s = omega arith
 
 -- two digits of 4 bits, each in a byte, come together in a byte
 pairs-are : (a b c d : ℕ) → Below 16 a b c d → pairsOf (lanes a b c d) ≡ lanes (a * 16 + b) 0 (c * 16 + d) 0

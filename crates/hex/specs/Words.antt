@@ -1,5 +1,5 @@
 -- Four bytes as one number of 32 bits, so that four digits are read at once.
-use Prim.Native.Nat.{ℕ, _+_, _*_, _/_, _%_}
+use Prim.Native.Nat.{ℕ, _+_, _-_, _*_, _/_, _%_}
 use mathlib.Core.List.{List, [], _∷_, _++_}
 use lib.Bits.{bitAnd}
 use lib.ListN.{getD}
@@ -28,7 +28,7 @@ numberOfWords x y = number 8 (bytesOf x ++ bytesOf y)
 -- The steps of the reading, for private functions: the value of the digit in each byte, then two digits joined in each
 -- second byte.
 abbrev pub valuesOf : ℕ → ℕ
-valuesOf x = bitAnd (bitAnd x 252645135 + 9 * bitAnd (x / 64) 16843009) 252645135
+valuesOf x = bitAnd (x - 7 * bitAnd (x / 64) 16843009) 252645135
 
 abbrev pub pairsOf : ℕ → ℕ
 pairsOf v = bitAnd (v * 16 + v / 256) 16711935

@@ -3,14 +3,15 @@ use denote.Ref.{now}
 use borrow.Author.Needs.{needs}
 use native.Mathlib.Omega.{arith}
 use Prim.Native.Nat.{ℕ, _≤_, _-_}
-use mathlib.Core.Path.{_≡_, refl, ap, sym}
+use mathlib.Core.Path.{_≡_, refl, ap, ap₂, sym, _∙_}
 use mathlib.Core.Bool.{Bool, false, _&&_}
-use lib.Dec.{eqb}
+use lib.Dec.{eqb, leb}
 use mathlib.Core.List.{List, [], _∷_}
 use lib.ListN.{length, getD}
 use Rattle.arithmetic.specs.Lists.{every}
 use Rattle.arithmetic.proofs.ListLaws.{every-one}
 use Rattle.hex.specs.Digits.{isDigit, isLine}
+use Rattle.hex.proofs.LineLaws.{max-within}
 use Rattle.hex.proofs.line.is_line.Statement.{statement}
 use Rattle.hex.proofs.line.is_line.Tie as tie
 
@@ -20,10 +21,10 @@ empty-no-line [] e = refl
 empty-no-line (b ∷ s) e = absurd (omega arith)
 
 abbrev Inv-loop : tie.InvT-loop
-Inv-loop s last good₀ i₀ good i = (i ≤ last) × (good ≡ every (λ k. isDigit (getD s k 0)) i)
+Inv-loop s last largest₀ i₀ largest i = (i ≤ last) × (leb largest 5 ≡ every (λ k. isDigit (getD s k 0)) i)
 
 abbrev μ-loop : tie.MeasureT-loop
-μ-loop s last good₀ i₀ good i = last - i
+μ-loop s last largest₀ i₀ largest i = last - i
 
 returns : tie.Need-returns Inv-loop μ-loop
 returns c = sym (empty-no-line _ (c .if1 .taken))
@@ -35,11 +36,14 @@ loop-holds : tie.Need-loop-holds Inv-loop μ-loop
 unfolding every
 loop-holds c = (search needs, refl)
 
-shared-slice-read-is-digit : tie.Need-shared-slice-read-is-digit Inv-loop μ-loop
-shared-slice-read-is-digit c = omega arith
+shared-slice-read-digit-offset : tie.Need-shared-slice-read-digit-offset Inv-loop μ-loop
+shared-slice-read-digit-offset c = omega arith
 
-is-digit-requires : tie.Need-is-digit-requires Inv-loop μ-loop
-is-digit-requires c κs = search needs
+digit-offset-requires : tie.Need-digit-offset-requires Inv-loop μ-loop
+digit-offset-requires c κs = search needs
+
+larger-requires : tie.Need-larger-requires Inv-loop μ-loop
+larger-requires c κs = search needs
 
 add-i : tie.Need-add-i Inv-loop μ-loop
 add-i c = omega arith
@@ -49,8 +53,13 @@ loop-less c = omega arith
 
 loop-again : tie.Need-loop-again Inv-loop μ-loop
 loop-again c =
-    let at-loop = c .before .before .before in
-    (omega arith, cc (every-one (λ k. isDigit (getD (now (at-loop .before .before .before .args .s)) k 0)) (at-loop .loop .i)))
+    let offset = c .before in
+    let at-loop = offset .before .before .before in
+    let s = now (at-loop .before .before .before .args .s) in (
+      omega arith,
+      ap (λ (x : ℕ). leb x 5) (c .larger .ensures) ∙ max-within (at-loop .loop .largest) (offset .digit-offset .result) 5
+          ∙ ap₂ _&&_ (at-loop .loop .inv .1) (offset .digit-offset .ensures) ∙ sym (every-one (λ k. isDigit (getD s k 0)) (at-loop .loop .i)),
+    )
 
 shared-slice-read-result : tie.Need-shared-slice-read-result Inv-loop μ-loop
 shared-slice-read-result c = omega arith
@@ -72,8 +81,9 @@ is-line-spec =
     returns
     sub-last
     loop-holds
-    shared-slice-read-is-digit
-    is-digit-requires
+    shared-slice-read-digit-offset
+    digit-offset-requires
+    larger-requires
     add-i
     loop-less
     loop-again
