@@ -1,7 +1,7 @@
 /* nuggetbay: the proved ground risk sheet (SORA 2.5), for C and C++.
  *
  * From an aircraft, a map of head counts and the flight's footprint to the critical area, the intrinsic and the final
- * ground risk class. Link with libnuggetbay.a; nothing else is needed.
+ * ground risk class. Link with libnuggetbay.a; beside it only the C library's memcpy is needed.
  *
  * For every function here:
  *   - Every call is answered, also a wrong one: what is out of range is refused by a number (enum nb_refusal), and there is
