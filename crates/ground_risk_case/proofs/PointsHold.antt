@@ -40,7 +40,7 @@ use Rattle.frame.specs.Frame.{printed, framed}
 use Rattle.frame.specs.WorkedLines.{p16Fields, p16Line}
 use Rattle.frame.proofs.FrameProof.{worked-lines}
 use Rattle.ground_risk_case.specs.Case.{fieldsOf, assessmentIn, outcomeOf, caseAnswer, frameLeft}
-use Rattle.ground_risk_case.specs.Points.{P16Text, onlyFirst, p16Case, P16Holds, aircraft, cell, mitigation, wholeCase, WorkedPointHolds, WorkedPointsHold}
+use Rattle.ground_risk_case.specs.Points.{p16Head, P16Text, onlyFirst, p16Case, P16Holds, aircraft, cell, mitigation, wholeCase, WorkedPointHolds, WorkedPointsHold}
 
 -- what is shown of an assessment: the refusal, and the printed fields
 record Told : Type 0 where
@@ -51,7 +51,7 @@ abbrev told : Assessment → Told
 told a = record { refusal = a .refusal; fields = fieldsOf a }
 
 p16-assessment : (counts marks : List ℕ) → P16Map counts marks →
-    told (assessmentOf 1000 10000 2500 counts marks 10000 0 4096) ≡ record { refusal = 0; fields = p16Fields }
+    told (assessmentOf (p16Head .dimension) (p16Head .mass) (p16Head .speed) counts marks (p16Head .«cell_area») (p16Head .controlled) (p16Head .word)) ≡ record { refusal = 0; fields = p16Fields }
 unfolding assessmentOf assessedBy workingOn afterFootprint afterClass sheetOf linesOf withLines flagOf columnOf columnBy areaOf totalOf savingOf runOf divUp intrinsicClassOf classRefusal classAt finalClassOf mitigationRefusal creditAt anyBelow
 p16-assessment counts marks h = rw (p16-footprint counts marks h)
 
