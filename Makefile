@@ -2,7 +2,7 @@
 #
 #   make                       the library, target/staticlib/libnuggetbay.a, and the program, target/bin/case
 #   make install PREFIX=DIR    library, header, pkg-config file, Rust package and program in DIR (default /usr/local)
-#   make test-boundary         the library's calls against the checker, under unreadable memory and under valgrind; both examples
+#   make test-boundary         the library's calls against the checker, under unreadable memory and under valgrind; the program; both examples
 #   make bench                 the library against obvious and tuned Rust
 
 PREFIX ?= /usr/local
@@ -20,7 +20,7 @@ CARGO = cd console && cargo
 EXAMPLES = farmhouses flagged refused
 FAULTS = a b c m t f r n p
 
-.PHONY: all install test-boundary test-lent test-valgrind test-faults test-install test-rust bench tools
+.PHONY: all install test-boundary test-lent test-valgrind test-faults test-program test-install test-rust bench tools
 .DELETE_ON_ERROR:
 
 all: $(LIBRARY) $(PROGRAM)
@@ -47,7 +47,7 @@ install: $(LIBRARY) $(PROGRAM)
 
 # ---- the boundary
 
-test-boundary: test-lent test-faults test-valgrind test-install test-rust
+test-boundary: test-lent test-faults test-valgrind test-program test-install test-rust
 	@echo 'test-boundary: all passed'
 
 tools:
@@ -78,12 +78,21 @@ test-faults: tools $(MADE)/boundary-faults $(CALLS)
 	    then echo "test-faults: fault u wasn't noticed"; exit 1; fi
 	@echo 'every fault was noticed: $(FAULTS) u'
 
+# no contract can say what a program reads and writes: inputs that end early or late, held to the checker
+TEXT_ENDS = 0 1 38 33958 33959 33960 67918
+test-program: tools $(PROGRAM) | $(MADE)
+	@for end in $(TEXT_ENDS); do \
+	    cat examples/farmhouses.case examples/farmhouses.case | head -c $$end >$(MADE)/text; \
+	    python3 checker/case.py <$(MADE)/text >$(MADE)/frame; \
+	    $(PROGRAM) <$(MADE)/text | cmp - $(MADE)/frame || exit 1; \
+	    cat $(MADE)/text | $(PROGRAM) | cmp - $(MADE)/frame || exit 1; done
+	@echo 'the program prints what the checker says for inputs of $(TEXT_ENDS) bytes, from a file and from a pipe'
+
 # what is installed serves both examples and gives the program
 INSTALLED = $(MADE)/installed
-test-install: export PREFIX = $(INSTALLED)
 test-install: tools $(LIBRARY) $(PROGRAM) | $(MADE)
 	rm -rf $(INSTALLED) $(MADE)/consumer
-	$(MAKE) --no-print-directory install >/dev/null
+	$(MAKE) --no-print-directory install PREFIX=$(INSTALLED) DESTDIR= >/dev/null
 	grep -qx 'prefix=$(abspath $(INSTALLED))' $(INSTALLED)/lib/pkgconfig/nuggetbay.pc
 	$(CC) -std=c99 $(filter-out -std=%,$(CFLAGS)) console/examples/case.c -I$(INSTALLED)/include -L$(INSTALLED)/lib -lnuggetbay -o $(MADE)/case-c
 	mkdir -p $(MADE)/consumer/src

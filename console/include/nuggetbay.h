@@ -5,7 +5,8 @@
  *
  * For every function here:
  *   - Every call is answered, also a wrong one: what is out of range is refused by a number (enum nb_refusal), and there is
- *     no value that must not be passed. Refusals are tested in the order in which they are listed at the function.
+ *     no number and no length that must not be passed. Refusals are tested in the order in which they are listed at the
+ *     function.
  *   - Memory is lent for the time of the call: a pointer, then its length in elements (not in bytes). The pointer must be
  *     aligned for its type and the whole length must be there; with length 0 it isn't read, but must not be NULL. Buffers
  *     lent to one call must not overlap, unless all that overlap are const. Nothing outside what is lent is read or written,

@@ -26,12 +26,12 @@ pub const FRAME_LENGTH: usize = 41;
 /// The bytes of a printed refusal.
 pub const REFUSAL_LENGTH: usize = 3;
 
-/// The value, or the refusal of this number.
+/// The value where the number is 0, else the refusal of this number.
 fn unless_refused<T>(refusal: u8, value: T) -> Result<T, Refusal> {
-    match Refusal::of_number(refusal) {
-        Some(refusal) => Err(refusal),
-        None => Ok(value),
+    if refusal == 0 {
+        return Ok(value);
     }
+    Err(Refusal::of_number(refusal).expect("the library gives the refusals 1 to 15 only, which is proved"))
 }
 
 /// The sheet of an aircraft. Refusals 1 to 4.

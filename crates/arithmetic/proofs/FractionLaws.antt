@@ -1,5 +1,4 @@
 -- The laws of fractions: the four operations go with the order, and a denominator stays above zero.
--- Assumes nothing.
 use Prim.Native.Nat.{_-_, _*_, _<_}
 use native.Mathlib.Nat.{mul-le-mul-right, mul-sub, mul-comm, mul-pos, le-of-mul-le-mul-right, le-refl}
 use native.Mathlib.Omega.{arith}

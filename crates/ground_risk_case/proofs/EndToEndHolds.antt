@@ -1,4 +1,4 @@
--- What a frame tells that was printed with no refusal.
+-- What a frame tells that was printed with no refusal, and that the answer of a case is shown.
 use mathlib.Core.Path.{_≡_, refl, sym, ap, _∙_, subst}
 use mathlib.Core.Bool.{false}
 use mathlib.Core.List.{List}
@@ -111,10 +111,15 @@ module _ (t : List ℕ) (none : assessmentIn t .refusal ≡ 0) where
         classes = shown;
         accuracy = demand .accuracy;
         flag-zero-or-one = rw (parts .sheet) (demand .flag-zero-or-one);
-        unflagged = λ e. same (demand .unflagged-column (sym (ap (λ (s : Sheet). s .flag) (parts .sheet)) ∙ e));
-        flagged = λ e. not-higher (sym (ap (λ (s : Sheet). s .flag) (parts .sheet)) ∙ e);
+        unflagged-column = λ e. rw (parts .sheet) (demand .unflagged-column (flag-is e));
+        flagged-column = λ e. rw (parts .sheet) (demand .flagged-column (flag-is e));
+        unflagged = λ e. same (demand .unflagged-column (flag-is e));
+        flagged = λ e. not-higher (flag-is e);
       }
     where
+      flag-is : {n : ℕ} → assessmentIn t .sheet .flag ≡ n → sheetIn t .flag ≡ n
+      flag-is e = sym (ap (λ (s : Sheet). s .flag) (parts .sheet)) ∙ e
+
       same : exactColumnIn t ≡ sheetIn t .column → ClassesShown t (exactColumnIn t) (fieldsOf (assessmentIn t))
       same e = rw e shown
 

@@ -1,4 +1,4 @@
 pub mod WaysOut
-pub mod AnswerListed
 pub mod EndToEndHolds
+pub mod AnswerShows
 pub mod PointsHold

@@ -2,7 +2,7 @@
 use mathlib.Core.Path.{_≡_}
 use mathlib.Core.Bool.{cond}
 use mathlib.Core.List.{List}
-use Prim.Native.Nat.{ℕ, _≤_}
+use Prim.Native.Nat.{ℕ}
 use lib.Dec.{ltb, eqb}
 use lib.ListN.{length}
 use Rattle.assessment.specs.declared.Assessment.{Assessment}
@@ -58,7 +58,3 @@ pub record CasePromise (text counts marks frame : List ℕ) (answer : ℕ) (coun
       counts-after ≡ keptUnder15 (length frame) (leftIn (readingRefusal text (length counts) (length marks)) (countsOf text) counts) counts
   pub marks-left :
       marks-after ≡ keptUnder15 (length frame) (leftIn (readingRefusal text (length counts) (length marks)) (marksOf text) marks) marks
-
--- demand 1: the answer is 0 or one of document 01's refusal numbers, whatever the text and the lent buffers
-abbrev pub CaseAnswerListed : Type 0
-CaseAnswerListed = (t : List ℕ) (counts marks frame : ℕ) → caseAnswer t counts marks frame ≤ 15
