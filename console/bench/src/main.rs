@@ -22,20 +22,31 @@ const NOISE: f64 = 0.02;
 struct Contest {
     name: &'static str,
     inputs: usize,
-    runs: [Box<dyn FnMut()>; 3],
+    runs: [Box<dyn FnMut(usize)>; 3],
     tuned_at_least: f64,
     obvious_at_least: f64,
 }
 
-/// What is lent again and again, to all contestants, and never cleared: each call finds what the one before left there.
+/// What is lent again and again, to all contestants, and never cleared: each call finds what the one before left there. In each
+/// round the counts start at another place of a page, since a store slows the loads at the same place of another page.
 struct Buffers {
     counts: Vec<u32>,
     marks: Vec<u64>,
     frame: Vec<u8>,
 }
 
+/// The 4,096 counts that are lent in a round.
+fn lent_counts(counts: &mut [u32], round: usize) -> &mut [u32] {
+    let start = round % PLACES_OF_A_PAGE * (PAGE / PLACES_OF_A_PAGE);
+    &mut counts[start..start + 4096]
+}
+
+/// In counts.
+const PAGE: usize = 1024;
+const PLACES_OF_A_PAGE: usize = 16;
+
 fn buffers() -> Rc<RefCell<Buffers>> {
-    Rc::new(RefCell::new(Buffers { counts: vec![0; 4096], marks: vec![0; 64], frame: vec![0; 41] }))
+    Rc::new(RefCell::new(Buffers { counts: vec![0; 4096 + PAGE], marks: vec![0; 64], frame: vec![0; 41] }))
 }
 
 fn sheet_contest(aircraft: Vec<Aircraft>) -> Contest {
@@ -43,14 +54,14 @@ fn sheet_contest(aircraft: Vec<Aircraft>) -> Contest {
     macro_rules! run {
         ($sheet:path) => {{
             let aircraft = Rc::clone(&aircraft);
-            Box::new(move || {
+            Box::new(move |_| {
                 for a in aircraft.iter() {
                     let _ = black_box($sheet(black_box(a.dimension), black_box(a.mass), black_box(a.speed)));
                 }
             })
         }};
     }
-    let runs: [Box<dyn FnMut()>; 3] = [run!(library::sheet), run!(tuned::sheet), run!(obvious::sheet)];
+    let runs: [Box<dyn FnMut(usize)>; 3] = [run!(library::sheet), run!(tuned::sheet), run!(obvious::sheet)];
     Contest { name: "sheet", inputs: aircraft.len(), runs, tuned_at_least: 1.0, obvious_at_least: 0.0 }
 }
 
@@ -59,14 +70,14 @@ fn footprint_contest(name: &'static str, maps: Vec<Map>) -> Contest {
     macro_rules! run {
         ($footprint:path) => {{
             let maps = Rc::clone(&maps);
-            Box::new(move || {
+            Box::new(move |_| {
                 for m in maps.iter() {
                     let _ = black_box($footprint(black_box(&m.counts), black_box(&m.marks), black_box(m.cell_area)));
                 }
             })
         }};
     }
-    let runs: [Box<dyn FnMut()>; 3] = [run!(library::footprint), run!(tuned::footprint), run!(obvious::footprint)];
+    let runs: [Box<dyn FnMut(usize)>; 3] = [run!(library::footprint), run!(tuned::footprint), run!(obvious::footprint)];
     Contest { name, inputs: maps.len(), runs, tuned_at_least: 1.0, obvious_at_least: 0.0 }
 }
 
@@ -75,15 +86,16 @@ fn reading_contest(name: &'static str, texts: &Rc<Vec<Vec<u8>>>) -> Contest {
     macro_rules! run {
         ($read_case:path) => {{
             let (texts, lent) = (Rc::clone(texts), Rc::clone(&lent));
-            Box::new(move || {
+            Box::new(move |round| {
                 let b = &mut *lent.borrow_mut();
                 for text in texts.iter() {
-                    let _ = black_box($read_case(black_box(text), black_box(&mut b.counts), black_box(&mut b.marks)));
+                    let counts = black_box(lent_counts(&mut b.counts, round));
+                    let _ = black_box($read_case(black_box(text), counts, black_box(&mut b.marks)));
                 }
             })
         }};
     }
-    let runs: [Box<dyn FnMut()>; 3] = [run!(library::read_case), run!(tuned::read_case), run!(obvious::read_case)];
+    let runs: [Box<dyn FnMut(usize)>; 3] = [run!(library::read_case), run!(tuned::read_case), run!(obvious::read_case)];
     Contest { name, inputs: texts.len(), runs, tuned_at_least: 1.0, obvious_at_least: 0.0 }
 }
 
@@ -98,20 +110,20 @@ fn case_contest(
     macro_rules! run {
         ($case:path) => {{
             let (texts, lent) = (Rc::clone(texts), Rc::clone(&lent));
-            Box::new(move || {
+            Box::new(move |round| {
                 let b = &mut *lent.borrow_mut();
                 for text in texts.iter() {
-                    let (counts, marks) = (black_box(&mut b.counts), black_box(&mut b.marks));
-                    let _ = black_box($case(black_box(text), counts, marks, black_box(&mut b.frame)));
+                    let counts = black_box(lent_counts(&mut b.counts, round));
+                    let _ = black_box($case(black_box(text), counts, black_box(&mut b.marks), black_box(&mut b.frame)));
                 }
             })
         }};
     }
     for text in texts.iter() {
         let b = &mut *lent.borrow_mut();
-        assert_eq!(library::case(text, &mut b.counts, &mut b.marks, &mut b.frame), answer);
+        assert_eq!(library::case(text, lent_counts(&mut b.counts, 0), &mut b.marks, &mut b.frame), answer);
     }
-    let runs: [Box<dyn FnMut()>; 3] = [run!(library::case), run!(tuned::case), run!(obvious::case)];
+    let runs: [Box<dyn FnMut(usize)>; 3] = [run!(library::case), run!(tuned::case), run!(obvious::case)];
     Contest { name, inputs: texts.len(), runs, tuned_at_least, obvious_at_least }
 }
 
@@ -170,11 +182,11 @@ fn best_times(contest: &mut Contest, time: Duration) -> [f64; 3] {
     let mut best = [f64::MAX; 3];
     let start = Instant::now();
     let mut round = 0;
-    while start.elapsed() < time || round < 30 {
+    while start.elapsed() < time || round < 3 * PLACES_OF_A_PAGE {
         for turn in 0..3 {
             let who = (round + turn) % 3;
             let before = Instant::now();
-            (contest.runs[who])();
+            (contest.runs[who])(round);
             let nanoseconds = before.elapsed().as_secs_f64() * 1e9 / contest.inputs as f64;
             best[who] = best[who].min(nanoseconds);
         }
@@ -191,7 +203,7 @@ fn count_instructions() {
     for mut contest in contests() {
         for who in 0..3 {
             let name = counted_name(&contest, who);
-            instructions::count(&name, &mut *contest.runs[who]);
+            instructions::count(&name, &mut || (contest.runs[who])(0));
         }
     }
 }
