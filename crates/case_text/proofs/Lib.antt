@@ -1,4 +1,4 @@
 pub mod ReadingLaws
 pub mod BlockLaws
 pub mod WrittenText
-pub mod TextProof
+pub mod TextLawHolds

@@ -38,7 +38,7 @@ countText counts r k = digits countWidth (getD counts (columns * r + k) 0)
 unfoldable pub rowText : List ℕ → ℕ → List ℕ
 rowText counts r = joined (countText counts r) columns ++ lineEnd
 
--- the case text: line 1, "then 64 lines of 16 digits, the footprint, and 64 lines of 512 digits, eight a count"
+-- the case text: line 1, then "64 lines of 16 digits, the footprint, and 64 lines of 512 digits, eight a count"
 unfoldable pub textOf : CaseFields → List ℕ
 textOf f = headText (f .head) ++ joined (fieldText markWidth (f .marks)) rows ++ joined (rowText (f .counts)) rows
 

@@ -1,1 +1,1 @@
-pub mod FrameProof
+pub mod FrameLawHolds

@@ -15,8 +15,8 @@ use Rattle.case_text.specs.Layout.{rows, cells, textLength}
 use Rattle.case_text.specs.Text.{isText, headOf, marksOf, countsOf, readingRefusal}
 use Rattle.frame.specs.Layout.{frameLength}
 use Rattle.frame.specs.FrameLaw.{refusalIn}
-use Rattle.frame.proofs.FrameProof.{frame-law}
-use Rattle.ground_risk_case.specs.Case.{fieldsOf, assessmentIn, outcomeOf, caseAnswer, frameLeft}
+use Rattle.frame.proofs.FrameLawHolds.{frame-law}
+use Rattle.ground_risk_case.specs.Case.{printedFields, assessmentIn, outcomeOf, caseAnswer, frameLeft}
 use Rattle.ground_risk_case.specs.EndToEnd.{AnswerShown}
 use Rattle.ground_risk_case.proofs.EndToEndHolds.{end-to-end}
 
@@ -61,5 +61,5 @@ module _ (t : List ℕ) (counts marks : ℕ) where
           let none : caseAnswer t counts marks (length frame) ≡ 0 = answer-is long ∙ eqb-true _ 0 e
           in end-to-end t counts marks frame none .0 ∙ sym none
       by-test long false e =
-          frame-law .refusal-shown (outcomeOf t counts marks .refusal) (fieldsOf (outcomeOf t counts marks)) frame long (eqb-false _ 0 e) (omega (arith, outcome-listed))
+          frame-law .refusal-shown (outcomeOf t counts marks .refusal) (printedFields (outcomeOf t counts marks)) frame long (eqb-false _ 0 e) (omega (arith, outcome-listed))
           ∙ sym (answer-is long)

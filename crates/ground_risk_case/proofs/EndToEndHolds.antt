@@ -35,8 +35,8 @@ use Rattle.frame.specs.declared.FrameFields.{FrameFields}
 use Rattle.frame.specs.Layout.{frameLength}
 use Rattle.frame.specs.Frame.{framed}
 use Rattle.frame.specs.FrameLaw.{refusalIn, fieldsIn, ClassFits, FrameFits, Shows}
-use Rattle.frame.proofs.FrameProof.{frame-law}
-use Rattle.ground_risk_case.specs.Case.{fieldsOf, assessmentIn, outcomeOf, caseAnswer, frameLeft}
+use Rattle.frame.proofs.FrameLawHolds.{frame-law}
+use Rattle.ground_risk_case.specs.Case.{printedFields, assessmentIn, outcomeOf, caseAnswer, frameLeft}
 use Rattle.ground_risk_case.specs.EndToEnd.{sheetIn, footprintIn, exactColumnIn, ClassesShown, ClassesNotHigher, FrameTells, EndToEnd}
 
 -- a final class is told by its byte
@@ -74,7 +74,7 @@ module _ (t : List ℕ) (none : assessmentIn t .refusal ≡ 0) where
   ranges : Ranges (countsOf t) (marksOf t) (headOf t .«cell_area»)
   ranges = footprint-promise (countsOf t) (marksOf t) (headOf t .«cell_area») .ranges (parts .footprint-given)
 
-  fits : FrameFits (fieldsOf (assessmentIn t))
+  fits : FrameFits (printedFields (assessmentIn t))
   fits =
       let s = sheet-fits w m v (parts .sheet-given) (demand .accuracy)
       in let last = final-promise (sheetIn t .column) (assessmentIn t .intrinsic) (headOf t .word)
@@ -91,14 +91,14 @@ module _ (t : List ℕ) (none : assessmentIn t .refusal ≡ 0) where
       }
 
   -- the sheet's working gives the classes that are shown
-  shown : ClassesShown t (sheetIn t .column) (fieldsOf (assessmentIn t))
+  shown : ClassesShown t (sheetIn t .column) (printedFields (assessmentIn t))
   shown =
       record {
         intrinsic = ap (λ (x : Working). x .intrinsic) (parts .working);
         final-class = ap (λ (x : Working). x .final) (parts .working);
       }
 
-  tells : FrameTells t (fieldsOf (assessmentIn t))
+  tells : FrameTells t (printedFields (assessmentIn t))
   tells =
       record {
         low = ap (λ (s : Sheet). s .area .low) (parts .sheet);
@@ -120,10 +120,10 @@ module _ (t : List ℕ) (none : assessmentIn t .refusal ≡ 0) where
       flag-is : {n : ℕ} → assessmentIn t .sheet .flag ≡ n → sheetIn t .flag ≡ n
       flag-is e = sym (ap (λ (s : Sheet). s .flag) (parts .sheet)) ∙ e
 
-      same : exactColumnIn t ≡ sheetIn t .column → ClassesShown t (exactColumnIn t) (fieldsOf (assessmentIn t))
+      same : exactColumnIn t ≡ sheetIn t .column → ClassesShown t (exactColumnIn t) (printedFields (assessmentIn t))
       same e = rw e shown
 
-      not-higher : sheetIn t .flag ≡ 1 → ClassesNotHigher t (exactColumnIn t) (fieldsOf (assessmentIn t))
+      not-higher : sheetIn t .flag ≡ 1 → ClassesNotHigher t (exactColumnIn t) (printedFields (assessmentIn t))
       not-higher e =
           record {
             intrinsic = demand .flagged-working e .intrinsic _ (shown .intrinsic);
@@ -148,11 +148,11 @@ end-to-end t counts marks frame h = told
     none : assessmentIn t .refusal ≡ 0
     none = sym (ap (λ (a : Assessment). a .refusal) outcome-is) ∙ tested .1
 
-    left-is : frameLeft t counts marks frame ≡ framed 0 (fieldsOf (assessmentIn t)) frame
+    left-is : frameLeft t counts marks frame ≡ framed 0 (printedFields (assessmentIn t)) frame
     left-is = unfold frameLeft in rw (outcome-is, none)
 
-    shows : Shows (framed 0 (fieldsOf (assessmentIn t)) frame) (fieldsOf (assessmentIn t))
-    shows = frame-law .fields-shown (fieldsOf (assessmentIn t)) frame (ltb-false _ _ (tested .0)) (fits t none)
+    shows : Shows (framed 0 (printedFields (assessmentIn t)) frame) (printedFields (assessmentIn t))
+    shows = frame-law .fields-shown (printedFields (assessmentIn t)) frame (ltb-false _ _ (tested .0)) (fits t none)
 
     told : (refusalIn (frameLeft t counts marks frame) ≡ 0) × FrameTells t (fieldsIn (frameLeft t counts marks frame))
     told = (

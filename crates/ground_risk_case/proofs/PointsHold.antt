@@ -33,13 +33,13 @@ use Rattle.case_text.specs.declared.CaseHead.{CaseHead}
 use Rattle.case_text.specs.Layout.{rows, cells}
 use Rattle.case_text.specs.Text.{countsOf, marksOf, readingRefusal}
 use Rattle.case_text.specs.TextLaw.{CaseFields, textOf, fieldsOf as fieldsIn, Fits}
-use Rattle.case_text.proofs.TextProof.{text-law}
+use Rattle.case_text.proofs.TextLawHolds.{text-law}
 use Rattle.frame.specs.declared.FrameFields.{FrameFields}
 use Rattle.frame.specs.Layout.{frameLength}
 use Rattle.frame.specs.Frame.{printed, framed}
 use Rattle.frame.specs.WorkedLines.{p16Fields, p16Line}
-use Rattle.frame.proofs.FrameProof.{worked-lines}
-use Rattle.ground_risk_case.specs.Case.{fieldsOf, assessmentIn, outcomeOf, caseAnswer, frameLeft}
+use Rattle.frame.proofs.FrameLawHolds.{worked-lines}
+use Rattle.ground_risk_case.specs.Case.{printedFields, assessmentIn, outcomeOf, caseAnswer, frameLeft}
 use Rattle.ground_risk_case.specs.Points.{p16Head, P16Text, onlyFirst, p16Case, P16Holds, aircraft, cell, mitigation, wholeCase, WorkedPointHolds, WorkedPointsHold}
 
 -- what is shown of an assessment: the refusal, and the printed fields
@@ -48,7 +48,7 @@ record Told : Type 0 where
   fields : FrameFields
 
 abbrev told : Assessment → Told
-told a = record { refusal = a .refusal; fields = fieldsOf a }
+told a = record { refusal = a .refusal; fields = printedFields a }
 
 p16-assessment : (counts marks : List ℕ) → P16Map counts marks →
     told (assessmentOf (p16Head .dimension) (p16Head .mass) (p16Head .speed) counts marks (p16Head .«cell_area») (p16Head .controlled) (p16Head .word)) ≡ record { refusal = 0; fields = p16Fields }
@@ -66,7 +66,7 @@ p16-line : printed 0 p16Fields ≡ p16Line
 unfolding printed
 p16-line = worked-lines .p16
 
-p16-printed : (t : List ℕ) → P16Text t → printed (outcomeOf t cells rows .refusal) (fieldsOf (outcomeOf t cells rows)) ≡ p16Line
+p16-printed : (t : List ℕ) → P16Text t → printed (outcomeOf t cells rows .refusal) (printedFields (outcomeOf t cells rows)) ≡ p16Line
 p16-printed t h = ap (λ (x : Told). printed (x .refusal) (x .fields)) (p16-told t h) ∙ p16-line
 
 p16-answer : (t : List ℕ) → P16Text t → (frame : List ℕ) → frameLength ≤ length frame → caseAnswer t cells rows (length frame) ≡ 0

@@ -11,7 +11,7 @@ use Rattle.case_text.specs.Text.{headOf, marksOf, countsOf, readingRefusal, rea
 use Rattle.frame.specs.declared.FrameFields.{FrameFields}
 use Rattle.frame.specs.Layout.{frameLength}
 use Rattle.frame.specs.Frame.{framed}
-use Rattle.ground_risk_case.specs.Case.{fieldsOf, assessmentIn, outcomeOf, caseAnswer, frameLeft, keptUnder15, CasePromise}
+use Rattle.ground_risk_case.specs.Case.{printedFields, assessmentIn, outcomeOf, caseAnswer, frameLeft, keptUnder15, CasePromise}
 
 module _ (text counts marks frame : List ℕ) where
   pub refused-15 : length frame < frameLength → CasePromise text counts marks frame 15 counts marks frame
@@ -32,7 +32,7 @@ module _ (text counts marks frame : List ℕ) where
     refusal-is = ap (λ (x : Reading). x .refusal) (read .answer)
 
     -- the buffers are as the reading leaves them, whatever the outcome
-    printed : {a : Assessment} {fields : FrameFields} {frame′ : List ℕ} → a ≡ outcome → fields ≡ fieldsOf a → frame′ ≡ framed (a .refusal) fields frame →
+    printed : {a : Assessment} {fields : FrameFields} {frame′ : List ℕ} → a ≡ outcome → fields ≡ printedFields a → frame′ ≡ framed (a .refusal) fields frame →
         CasePromise text counts marks frame (a .refusal) counts′ marks′ frame′
     unfolding caseAnswer frameLeft keptUnder15
     printed e f g =
@@ -44,7 +44,7 @@ module _ (text counts marks frame : List ℕ) where
           marks-left = simp enough (read .marks-left);
         }
 
-    pub ended-by-reading : {a : Assessment} {fields : FrameFields} {frame′ : List ℕ} → (reading .refusal ≡ 0 → ⊥) → a ≡ refusedAssessment (reading .refusal) → fields ≡ fieldsOf a →
+    pub ended-by-reading : {a : Assessment} {fields : FrameFields} {frame′ : List ℕ} → (reading .refusal ≡ 0 → ⊥) → a ≡ refusedAssessment (reading .refusal) → fields ≡ printedFields a →
         frame′ ≡ framed (reading .refusal) fields frame → CasePromise text counts marks frame (reading .refusal) counts′ marks′ frame′
     ended-by-reading {a} {fields} {frame′} h e f g =
         let same : a .refusal ≡ reading .refusal = ap (λ (x : Assessment). x .refusal) e
@@ -56,7 +56,7 @@ module _ (text counts marks frame : List ℕ) where
 
     pub not-ended : {a : Assessment} {fields : FrameFields} {frame′ : List ℕ} → reading .refusal ≡ 0 →
         a ≡ assessmentOf (reading .fields .dimension) (reading .fields .mass) (reading .fields .speed) counts′ marks′ (reading .fields .«cell_area») (reading .fields .controlled) (reading .fields .word) →
-        fields ≡ fieldsOf a → frame′ ≡ framed (a .refusal) fields frame → CasePromise text counts marks frame (a .refusal) counts′ marks′ frame′
+        fields ≡ printedFields a → frame′ ≡ framed (a .refusal) fields frame → CasePromise text counts marks frame (a .refusal) counts′ marks′ frame′
     not-ended h e f g = printed (e ∙ outcome-is) f g
       where
         none : refusal ≡ 0

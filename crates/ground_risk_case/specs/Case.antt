@@ -13,8 +13,8 @@ use Rattle.frame.specs.Layout.{frameLength}
 use Rattle.frame.specs.Frame.{framed}
 
 -- the printed fields of an assessment
-abbrev pub fieldsOf : Assessment → FrameFields
-fieldsOf a =
+abbrev pub printedFields : Assessment → FrameFields
+printedFields a =
     record {
       low = a .sheet .area .low;
       high = a .sheet .area .high;
@@ -44,7 +44,7 @@ caseAnswer t counts marks frame = cond (ltb frame frameLength) 15 (outcomeOf t c
 
 -- the frame buffer at exit
 unfoldable pub frameLeft : List ℕ → ℕ → ℕ → List ℕ → List ℕ
-frameLeft t counts marks frame = framed (outcomeOf t counts marks .refusal) (fieldsOf (outcomeOf t counts marks)) frame
+frameLeft t counts marks frame = framed (outcomeOf t counts marks .refusal) (printedFields (outcomeOf t counts marks)) frame
 
 -- "A reading that succeeds fills both buffers, also when a later refusal is printed; under 15 they keep their content."
 unfoldable pub keptUnder15 : ℕ → List ℕ → List ℕ → List ℕ

@@ -16,7 +16,7 @@ use Rattle.case_text.specs.Text.{headOf, marksOf, countsOf, readingRefusal}
 use Rattle.case_text.specs.TextLaw.{CaseFields, textOf}
 use Rattle.frame.specs.Layout.{frameLength}
 use Rattle.frame.specs.WorkedLines.{p16Fields, p16Line}
-use Rattle.ground_risk_case.specs.Case.{fieldsOf, outcomeOf, caseAnswer, frameLeft}
+use Rattle.ground_risk_case.specs.Case.{printedFields, outcomeOf, caseAnswer, frameLeft}
 
 -- P16's first line, `000003e800002710000009c400002710001000`
 abbrev pub p16Head : CaseHead
@@ -39,7 +39,7 @@ p16Case = record { head = p16Head; marks = onlyFirst (2 ^ 63) rows; counts = onl
 -- there is such a text; of each one the printed fields are those of P16's output, the answer is 0, and its line stands in the frame buffer
 pub record P16Holds : Type 0 where
   pub text : P16Text (textOf p16Case)
-  pub fields : (t : List ℕ) → P16Text t → fieldsOf (outcomeOf t cells rows) ≡ p16Fields
+  pub fields : (t : List ℕ) → P16Text t → printedFields (outcomeOf t cells rows) ≡ p16Fields
   pub answer : (t : List ℕ) → P16Text t → (frame : List ℕ) → frameLength ≤ length frame → caseAnswer t cells rows (length frame) ≡ 0
   pub bytes : (t : List ℕ) → P16Text t → (frame : List ℕ) → frameLength ≤ length frame → frameLeft t cells rows frame ≡ stored 0 p16Line frame
 

@@ -1,6 +1,6 @@
 // The whole case, from its text to the printed frame.
 ghost use mathlib.Core.Path.{_≡_};
-ghost use Rattle.ground_risk_case.specs.Case.{fieldsOf, CasePromise};
+ghost use Rattle.ground_risk_case.specs.Case.{printedFields, CasePromise};
 use assessment::Assessment;
 use assessment::assess;
 use case_text::read_case;
@@ -9,8 +9,8 @@ use frame::FrameFields;
 use frame::write_frame;
 
 // The printed fields of an assessment.
-fn fields_of(a: Assessment) -> FrameFields
-    ensures { λ r. ⌜ r ≡ fieldsOf a ⌝ }
+fn printed_fields(a: Assessment) -> FrameFields
+    ensures { λ r. ⌜ r ≡ printedFields a ⌝ }
 {
     let sheet = a.sheet;
     let area = sheet.area;
@@ -39,7 +39,7 @@ pub fn print_case(text: &[u8], counts: &mut [u32], marks: &mut [u64], frame: &mu
     let reading = read_case(text, counts, marks);
     if reading.refusal != 0 {
         let nothing = assessment::refused_with(reading.refusal);
-        write_frame(reading.refusal, fields_of(nothing), frame);
+        write_frame(reading.refusal, printed_fields(nothing), frame);
         return reading.refusal;
     }
     let head = reading.fields;
@@ -53,6 +53,6 @@ pub fn print_case(text: &[u8], counts: &mut [u32], marks: &mut [u64], frame: &mu
         head.controlled,
         head.word,
     );
-    write_frame(a.refusal, fields_of(a), frame);
+    write_frame(a.refusal, printed_fields(a), frame);
     a.refusal
 }

@@ -44,7 +44,7 @@ wrongColumn column = outside 1 columns column
 abbrev pub wrongReading : ℕ → ℕ → ℕ → Bool
 wrongReading column row controlled = wrongColumn column || outside 2 rows row || ltb 1 controlled
 
--- "Class refusals", in the order tested: 9, and "10 the entry is 'none'"; 0 where there is none
+-- "Class refusals", in the order tested: 9, and 10 where the entry is "none"; 0 where there is none
 unfoldable pub classRefusal : ℕ → ℕ → ℕ → ℕ
 classRefusal column row controlled =
     cond (wrongReading column row controlled) 9 (cond (eqb (classAt (usedRow row controlled) column) noClass) 10 0)

@@ -6,11 +6,11 @@ use lib.Dec.{leb, ltb}
 use lib.ListN.{getD}
 
 -- the columns' area limits: "65,000; 650,000; 6,500,000; 65,000,000; 650,000,000 square centimetres"
-abbrev pub limits : List ℕ
-limits = 65000 ∷ 650000 ∷ 6500000 ∷ 65000000 ∷ 650000000 ∷ []
-
 abbrev pub lastLimit : ℕ
 lastLimit = 650000000
+
+abbrev pub limits : List ℕ
+limits = 65000 ∷ 650000 ∷ 6500000 ∷ 65000000 ∷ lastLimit ∷ []
 
 -- the first entry of a table that passes a test, counted from k; 0 where none does
 abbrev pub firstFrom : (ℕ → Bool) → ℕ → List ℕ → ℕ

@@ -9,7 +9,7 @@ use Rattle.hex.specs.Digits.{written}
 use Rattle.hex.proofs.FieldLaws.{length-written, written-append}
 use Rattle.frame.specs.Layout.{rowStart, frameDigits}
 use Rattle.frame.specs.Frame.{frameFields, frameLine}
-use Rattle.frame.proofs.FrameProof.{frame-long}
+use Rattle.frame.proofs.FrameLawHolds.{frame-long}
 use borrow.Author.Needs.{needs}
 use Rattle.frame.proofs.write_fields.Statement.{statement}
 use Rattle.frame.proofs.write_fields.Tie as tie

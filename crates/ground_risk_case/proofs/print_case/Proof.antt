@@ -13,8 +13,8 @@ read-case-requires c κs = search needs
 refused-with-requires : tie.Need-refused-with-requires
 refused-with-requires c κs = search needs
 
-fields-of-requires : tie.Need-fields-of-requires
-fields-of-requires c κs = search needs
+printed-fields-requires : tie.Need-printed-fields-requires
+printed-fields-requires c κs = search needs
 
 write-frame-requires : tie.Need-write-frame-requires
 write-frame-requires c κs = search needs
@@ -34,13 +34,13 @@ returns-2 c =
     in let fields = write .before .before
     in let then = fields .before .before
     in let read = then .before .before .before .before .before .before
-    in ended-by-reading _ _ _ _ (read .before .before .before .if1 .left) (read .read-case .ensures) (then .if2 .taken) (fields .before .refused-with .ensures) (fields .fields-of .ensures) (write .write-frame .ensures .1)
+    in ended-by-reading _ _ _ _ (read .before .before .before .if1 .left) (read .read-case .ensures) (then .if2 .taken) (fields .before .refused-with .ensures) (fields .printed-fields .ensures) (write .write-frame .ensures .1)
 
 assess-requires : tie.Need-assess-requires
 assess-requires c κs = search needs
 
-fields-of-requires-2 : tie.Need-fields-of-requires-2
-fields-of-requires-2 c κs = search needs
+printed-fields-requires-2 : tie.Need-printed-fields-requires-2
+printed-fields-requires-2 c κs = search needs
 
 write-frame-requires-2 : tie.Need-write-frame-requires-2
 write-frame-requires-2 c κs = search needs
@@ -61,7 +61,7 @@ returns-3 c =
     in let assessed = fields .before
     in let otherwise = assessed .before .before .before .before
     in let read = otherwise .before .before .before .before .before .before
-    in not-ended _ _ _ _ (read .before .before .before .if1 .left) (read .read-case .ensures) (otherwise .if2 .left) (assessed .assess .ensures) (fields .fields-of2 .ensures) (write .write-frame2 .ensures .1)
+    in not-ended _ _ _ _ (read .before .before .before .if1 .left) (read .read-case .ensures) (otherwise .if2 .left) (assessed .assess .ensures) (fields .printed-fields2 .ensures) (write .write-frame2 .ensures .1)
 
 pub print-case-spec : {M : Type 1} → statement M
 print-case-spec =
@@ -70,14 +70,14 @@ print-case-spec =
     returns
     read-case-requires
     refused-with-requires
-    fields-of-requires
+    printed-fields-requires
     write-frame-requires
     same-length
     same-length-2
     same-length-3
     returns-2
     assess-requires
-    fields-of-requires-2
+    printed-fields-requires-2
     write-frame-requires-2
     same-length-4
     same-length-5
