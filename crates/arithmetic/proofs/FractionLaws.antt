@@ -1,6 +1,5 @@
 -- The laws of fractions: the four operations go with the order, and a denominator stays above zero.
--- Assumes nothing.
-use Prim.Native.Nat.{ℕ, _+_, _-_, _*_, _≤_, _<_}
+use Prim.Native.Nat.{_-_, _*_, _<_}
 use native.Mathlib.Nat.{mul-le-mul-right, mul-sub, mul-comm, mul-pos, le-of-mul-le-mul-right, le-refl}
 use native.Mathlib.Omega.{arith}
 use Rattle.arithmetic.specs.Fraction.{Fraction, plus, minus, times, divided, _⊑_}
@@ -44,14 +43,6 @@ pub plus-pos : (a b : Fraction) → 0 < a .den → 0 < b .den → 0 < plus a b .
 unfolding plus
 plus-pos a b h k = mul-pos h k
 
-pub minus-pos : (a b : Fraction) → 0 < a .den → 0 < b .den → 0 < minus a b .den
-unfolding minus
-minus-pos a b h k = mul-pos h k
-
 pub times-pos : (a b : Fraction) → 0 < a .den → 0 < b .den → 0 < times a b .den
 unfolding times
 times-pos a b h k = mul-pos h k
-
-pub divided-pos : (a b : Fraction) → 0 < a .den → 0 < b .num → 0 < divided a b .den
-unfolding divided
-divided-pos a b h k = mul-pos h k

@@ -1,7 +1,7 @@
 -- Division rounded down and up, by any divisor above zero: the bracket that each keeps, and how each goes with its operands.
 use mathlib.Core.Path.{_≡_}
-use Prim.Native.Nat.{ℕ, suc, _+_, _-_, _*_, _/_, _%_, _≤_, _<_}
-use native.Mathlib.Nat.{div-mul-le-self, lt-div-mul-add, le-div-iff-mul-le, mul-le-mul-left, le-trans, div-lt-iff-lt-mul, suc-le-suc-iff, mul-le-mul-right, le-of-mul-le-mul-right, lt-of-mul-lt-mul-right, le-antisymm, div-add-mod', div-zero}
+use Prim.Native.Nat.{ℕ, zero, suc, _+_, _-_, _*_, _/_, _≤_, _<_}
+use native.Mathlib.Nat.{div-mul-le-self, lt-div-mul-add, le-div-iff-mul-le, mul-le-mul-left, le-trans, div-lt-iff-lt-mul, suc-le-suc-iff, mul-le-mul-right, le-of-mul-le-mul-right, lt-of-mul-lt-mul-right, le-antisymm, div-zero, div-eq-of-lt}
 use native.Mathlib.Omega.{arith}
 use Rattle.arithmetic.specs.Rounding.{divUp}
 
@@ -15,10 +15,6 @@ pub up-high : (a b : ℕ) → 0 < b → a ≤ divUp a b * b
 unfolding divUp
 up-high a b h = omega (arith, lt-div-mul-add {a = a + (b - 1)} h)
 
-pub up-low : (a b : ℕ) → 0 < b → divUp a b * b < a + b
-unfolding divUp
-up-low a b h = omega (arith, div-mul-le-self (a + (b - 1)) b)
-
 -- the quotients' own characterisations: x ≤ a / b and divUp a b ≤ x
 pub le-down : (x a b : ℕ) → 0 < b → x * b ≤ a → x ≤ a / b
 le-down x a b h k = le-div-iff-mul-le h .1 k
@@ -27,20 +23,15 @@ pub up-le : (x a b : ℕ) → 0 < b → a ≤ x * b → divUp a b ≤ x
 unfolding divUp
 up-le x a b h k = suc-le-suc-iff .0 (div-lt-iff-lt-mul {x = a + (b - 1)} {y = suc x} h .1 (omega arith))
 
--- rounding up, from the quotient and the remainder
-pub up-none : (a : ℕ) → divUp a 0 ≡ 0
+-- nothing over anything, and anything over nothing
+pub up-by-none : (a : ℕ) → divUp a 0 ≡ 0
 unfolding divUp
-up-none a = div-zero _
+up-by-none a = div-zero _
 
-pub up-even : (a b : ℕ) → 0 < b → a % b ≡ 0 → divUp a b ≡ a / b
-up-even a b h e =
-    le-antisymm (up-le (a / b) a b h (omega (arith, div-add-mod' a b)))
-    (le-of-mul-le-mul-right {k = b} (omega (arith, up-high a b h, down-low a b)) h)
-
-pub up-more : (a b : ℕ) → 0 < b → (a % b ≡ 0 → ⊥) → divUp a b ≡ a / b + 1
-up-more a b h e =
-    le-antisymm (up-le (a / b + 1) a b h (omega (arith, down-high a b h)))
-    (omega (arith, lt-of-mul-lt-mul-right b {m = a / b} {n = divUp a b} (omega (arith, up-high a b h, div-add-mod' a b))))
+pub up-of-none : (b : ℕ) → divUp 0 b ≡ 0
+unfolding divUp
+up-of-none zero = div-zero (0 + (0 - 1))
+up-of-none (suc b) = div-eq-of-lt {n = 0 + (suc b - 1)} {m = suc b} (omega arith)
 
 -- one more, rounded up, is one more than the quotient
 pub up-next : (a b : ℕ) → 0 < b → divUp (a + 1) b ≡ a / b + 1

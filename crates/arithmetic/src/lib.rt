@@ -10,8 +10,10 @@ pub fn div_up(a: u64, b: u64) -> u64
     if b == 0 {
         return 0;
     }
-    let q = a / b;
-    if a % b == 0 { q } else { q + 1 }
+    if a == 0 {
+        return 0;
+    }
+    (a - 1) / b + 1
 }
 
 // a - b, or 0 where that is negative.

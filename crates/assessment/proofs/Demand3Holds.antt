@@ -1,16 +1,15 @@
 -- Demand 3.
 use mathlib.Core.Path.{_≡_, ap}
 use mathlib.Core.Logic.{_⊎_, ⊎-elim}
-use mathlib.Core.List.{List}
 use Prim.Native.Nat.{ℕ, _+_, _≤_}
 use native.Mathlib.Omega.{arith}
 use Rattle.sheet.specs.Sheet.{sheetOf}
 use Rattle.footprint.specs.Map.{footprintOf}
 use Rattle.exact_area.specs.ExactArea.{exactColumn}
-use Rattle.exact_area.specs.Accuracy.{AreaIsAccurate, ColumnIsAccurate}
+use Rattle.exact_area.specs.Accuracy.{ColumnIsAccurate}
 use Rattle.exact_area.proofs.AccuracyHolds.{sheet-is-accurate}
 use Rattle.assessment.specs.Working.{Working, workingAt}
-use Rattle.assessment.specs.Demand3.{SameWorking, SameOrLower, Demand3, Demand3Holds}
+use Rattle.assessment.specs.Demand3.{SameWorking, Demand3Holds}
 use Rattle.assessment.proofs.LowerColumn.{lower-column}
 
 pub demand-3 : Demand3Holds

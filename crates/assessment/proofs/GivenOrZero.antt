@@ -15,7 +15,7 @@ use Rattle.risk_class.specs.ClassTable.{intrinsicClassOf}
 use Rattle.risk_class.specs.Mitigation.{finalClassOf}
 use Rattle.risk_class.proofs.Promises.{intrinsic-promise, final-promise}
 use Rattle.assessment.specs.declared.Assessment.{Assessment}
-use Rattle.assessment.specs.Working.{Working, endedBefore, afterClass, afterFootprint, workingOn}
+use Rattle.assessment.specs.Working.{Working, afterClass, afterFootprint, workingOn}
 use Rattle.assessment.specs.Assessment.{refusedAssessment, assessedBy, assessmentOf, AssessmentIsGivenOrZero}
 
 -- a working goes on, or ends with a refusal

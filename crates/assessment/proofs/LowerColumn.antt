@@ -1,5 +1,5 @@
 -- A working at a lower column gives each class that the other gives, the same or lower.
-use mathlib.Core.Path.{_≡_, refl, sym, ap, _∙_}
+use mathlib.Core.Path.{_≡_, refl}
 use mathlib.Core.Bool.{Bool, true, false, cond}
 use Prim.Native.Nat.{ℕ, _≤_}
 use native.Mathlib.Omega.{arith}
@@ -14,7 +14,7 @@ use Rattle.risk_class.specs.Mitigation.{finalClassOf}
 use Rattle.risk_class.specs.Promises.{LowerReading}
 use Rattle.risk_class.proofs.ClassLaws.{Reading, reading}
 use Rattle.risk_class.proofs.Lower.{intrinsic-lower, working-lower}
-use Rattle.assessment.specs.Working.{Given, given, notGiven, Working, endedBefore, endedAfter, wholeWorking, afterClass, afterFootprint, workingOn}
+use Rattle.assessment.specs.Working.{given, notGiven, Working, endedBefore, endedAfter, wholeWorking, afterClass, afterFootprint, workingOn}
 use Rattle.assessment.specs.Demand3.{SameOrLower}
 
 not-given : {A : Type 0} {a : A} → notGiven ≡ given a → ⊥

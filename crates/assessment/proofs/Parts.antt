@@ -1,14 +1,10 @@
 -- An assessment that isn't refused has every part given, and shows them.
-use mathlib.Core.Path.{_≡_, refl, sym, ap, _∙_}
-use mathlib.Core.Bool.{Bool, true, false, cond}
+use mathlib.Core.Path.{_≡_, refl}
 use mathlib.Core.List.{List}
 use Prim.Native.Nat.{ℕ}
-use borrow.Author.Tests.{eqb-true, eq-eqb}
-use lib.Dec.{eqb}
+use borrow.Author.Tests.{eq-eqb}
 use Rattle.arithmetic.proofs.TestLaws.{went-on}
-use Rattle.sheet.specs.declared.SheetAnswer.{SheetAnswer}
 use Rattle.sheet.specs.Sheet.{sheetOf}
-use Rattle.footprint.specs.declared.Footprint.{Footprint}
 use Rattle.footprint.specs.Map.{footprintOf}
 use Rattle.risk_class.specs.ClassTable.{intrinsicClassOf}
 use Rattle.risk_class.specs.Mitigation.{finalClassOf}

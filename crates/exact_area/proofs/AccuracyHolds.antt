@@ -1,15 +1,15 @@
 -- Demand 3 on areas and columns, of the answers of `sheetOf`.
 use mathlib.Core.Path.{_≡_, sym, _∙_}
-use Prim.Native.Nat.{ℕ, suc, _+_, _-_, _*_, _≤_, _<_}
+use Prim.Native.Nat.{ℕ, suc, _-_, _≤_, _<_}
 use native.Mathlib.Nat.{mul-le-mul-right}
 use native.Mathlib.Omega.{arith}
 use lib.Dec.{leb, lit<}
-use Rattle.arithmetic.specs.Fraction.{Fraction, _over_, times, plus, minus, divided, _⊑_}
+use Rattle.arithmetic.specs.Fraction.{Fraction, _over_, times, plus, minus, divided}
 use Rattle.arithmetic.proofs.FractionLaws.{plus-pos, times-pos}
 use Rattle.sheet.specs.Ranges.{InRange}
 use Rattle.sheet.specs.Lines.{Formula, whole, sixTenths, glideOnly, formulaOf}
 use Rattle.sheet.specs.Column.{limits, lastLimit, columnBy, columnOf, flagOf}
-use Rattle.sheet.specs.Sheet.{linesOf, sheetOf}
+use Rattle.sheet.specs.Sheet.{linesOf}
 use Rattle.sheet.specs.Acceptance.{RefusedExactlyWhen, SheetIsGivenOrZero}
 use Rattle.sheet.proofs.FirstInTable.{FirstAt}
 use Rattle.sheet.proofs.ColumnLaws.{column-at, limit-found, column-in-table, flag-at-most-one, lines-column, lines-flag}

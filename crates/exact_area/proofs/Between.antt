@@ -1,8 +1,6 @@
 -- The exact area lies between the low and the high one: low and high go through the formula by the laws of fractions, and nothing is multiplied out.
-use mathlib.Core.Path.{_≡_, refl}
 use Prim.Native.Nat.{ℕ, _+_, _-_, _*_, _/_, _^_, _≤_, _<_}
 use native.Mathlib.Omega.{arith}
-use native.Mathlib.Nat.{mul-le-mul-right, le-trans, mul-pos}
 use lib.Dec.{lit≤, lit<}
 use Rattle.arithmetic.specs.Rounding.{divUp}
 use Rattle.arithmetic.specs.Fraction.{Fraction, _over_, plus, minus, times, divided, _⊑_}

@@ -1,14 +1,14 @@
 -- What the sheet's column and flag say of the exact column.
-use mathlib.Core.Path.{_≡_, refl, sym, _∙_, ap, subst}
+use mathlib.Core.Path.{_≡_, refl, sym, subst}
 use mathlib.Core.Bool.{Bool, true, false, cond}
 use mathlib.Core.Logic.{_⊎_, inl, inr, ⊎-elim}
 use Prim.Native.Nat.{ℕ, zero, suc, _+_, _-_, _*_, _≤_, _<_}
-use native.Mathlib.Nat.{mul-le-mul-right, le-of-suc-le-suc, not-suc-le-zero, eq-or-lt-of-le, mul-pos}
+use native.Mathlib.Nat.{mul-le-mul-right, eq-or-lt-of-le}
 use native.Mathlib.Omega.{arith}
-use lib.Dec.{leb, ltb, lit≤, lit<}
-use lib.ListN.{length, getD}
-use borrow.Author.Tests.{leb-true, leb-false, le-leb, lt-leb, lt-ltb, le-ltb}
-use Rattle.arithmetic.specs.Fraction.{Fraction, _over_, plus, minus, times, divided, _⊑_}
+use lib.Dec.{leb}
+use lib.ListN.{getD}
+use borrow.Author.Tests.{leb-true, leb-false, le-leb, lt-leb, lt-ltb}
+use Rattle.arithmetic.specs.Fraction.{Fraction, _over_, _⊑_}
 use Rattle.sheet.specs.Column.{limits, columnBy, flagOf}
 use Rattle.sheet.proofs.FirstInTable.{FirstAt}
 use Rattle.sheet.proofs.ColumnLaws.{limit-gap, column-at}

@@ -14,7 +14,7 @@ fn below_density(people: u32, area: u32, density: u32) -> bool
 }
 
 // The table row of a cell.
-pub fn table_row(people: u32, area: u32) -> u8
+pub(crate) fn table_row(people: u32, area: u32) -> u8
     ensures { λ r. ⌜ r ≡ tableRow people area ⌝ }
 {
     if below_density(people, area, 5) {
@@ -36,7 +36,7 @@ pub fn table_row(people: u32, area: u32) -> u8
 }
 
 // A cell's key: one more than its count where it is marked, else 0. One value then gives sum and maximum with no branch.
-pub fn key(bits: u64, column: usize, count: u32) -> u32
+pub(crate) fn key(bits: u64, column: usize, count: u32) -> u32
     requires { ⌜ (column < rowCells) × (count ≤ largestCount) ⌝ }
     ensures { λ r. ⌜ r ≡ bitAt bits column * (count + 1) ⌝ }
 {

@@ -11,14 +11,14 @@ ghost use Rattle.footprint.specs.Map.{mapCells, mapRows, rowCells, large
 ghost use Rattle.footprint.specs.Walk.{largestKey, rowKey, rowWalk, withRow, mapWalk};
 
 // A map row: its largest key, and the people and the number of its marked cells.
-pub struct RowWalk {
+pub(crate) struct RowWalk {
     pub worst: u32,
     pub people: u32,
     pub cells: u32,
 }
 
 // The map rows so far, and the first of them with the largest key.
-pub struct MapWalk {
+pub(crate) struct MapWalk {
     pub worst: u32,
     pub row: usize,
     pub people: u64,
@@ -63,7 +63,7 @@ fn walk_row(counts: &[u32], bits: u64) -> RowWalk
 }
 
 // The first marked cell of a map row with the row's largest key.
-pub fn first_worst(counts: &[u32], bits: u64, worst: u32) -> usize
+pub(crate) fn first_worst(counts: &[u32], bits: u64, worst: u32) -> usize
     requires { ⌜ (length (now counts) ≡ rowCells) × ((i : ℕ) → i < rowCells → countAt (now counts) i ≤ largestCount) × (0 < worst) × (worst ≡ maxBelow (rowKey (now counts) bits) rowCells) ⌝ }
     ensures { λ r. ⌜ r ≡ firstMaxBelow (rowKey (now (counts .entry)) bits) rowCells ⌝ }
 {
@@ -101,7 +101,7 @@ fn with_row(w: MapWalk, b: RowWalk, r: usize) -> MapWalk
 }
 
 // All map rows, each lent as its own 64 counts.
-pub fn walk_map(counts: &[u32], marks: &[u64]) -> MapWalk
+pub(crate) fn walk_map(counts: &[u32], marks: &[u64]) -> MapWalk
     requires { ⌜ (length (now counts) ≡ mapCells) × (length (now marks) ≡ mapRows) × (wrongCount (now counts) ≡ false) ⌝ }
     ensures { λ r. ⌜ r ≡ mapWalk (now (counts .entry)) (now (marks .entry)) mapRows ⌝ }
 {

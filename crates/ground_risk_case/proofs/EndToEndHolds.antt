@@ -1,8 +1,8 @@
--- What a frame tells that was printed with no refusal.
+-- What a frame tells that was printed with no refusal, and that the answer of a case is shown.
 use mathlib.Core.Path.{_≡_, refl, sym, ap, _∙_, subst}
 use mathlib.Core.Bool.{false}
 use mathlib.Core.List.{List}
-use Prim.Native.Nat.{ℕ, _^_, _≤_, _<_}
+use Prim.Native.Nat.{ℕ, _≤_}
 use native.Mathlib.Omega.{arith}
 use borrow.Author.Tests.{eq-eqb, ltb-false}
 use lib.Dec.{ltb, eqb, leb→le}
@@ -18,17 +18,15 @@ use Rattle.sheet.specs.Sheet.{linesOf, sheetOf}
 use Rattle.sheet.proofs.LineBounds.{column-max}
 use Rattle.sheet.proofs.ColumnLaws.{lines-column}
 use Rattle.sheet.proofs.Refusals.{refused-exactly-when, sheet-is-given-or-zero}
-use Rattle.exact_area.specs.ExactArea.{exactArea, exactColumn}
+use Rattle.exact_area.specs.ExactArea.{exactArea}
 use Rattle.exact_area.specs.Accuracy.{AreaIsAccurate}
 use Rattle.footprint.specs.declared.Footprint.{Footprint}
-use Rattle.footprint.specs.Map.{footprintOf}
 use Rattle.footprint.specs.Promises.{Ranges}
 use Rattle.footprint.proofs.Promises.{footprint-promise}
-use Rattle.risk_class.specs.ClassTable.{usedRow, intrinsicClassOf}
 use Rattle.risk_class.proofs.Promises.{intrinsic-promise, final-promise}
 use Rattle.assessment.specs.declared.Assessment.{Assessment}
 use Rattle.assessment.specs.Working.{Working, given}
-use Rattle.assessment.specs.Assessment.{refusedAssessment, assessmentOf, AssessmentParts}
+use Rattle.assessment.specs.Assessment.{refusedAssessment, AssessmentParts}
 use Rattle.assessment.specs.Demand3.{Demand3}
 use Rattle.assessment.proofs.Parts.{assessment-parts}
 use Rattle.assessment.proofs.Demand3Holds.{demand-3}
@@ -39,7 +37,7 @@ use Rattle.frame.specs.Frame.{framed}
 use Rattle.frame.specs.FrameLaw.{refusalIn, fieldsIn, ClassFits, FrameFits, Shows}
 use Rattle.frame.proofs.FrameProof.{frame-law}
 use Rattle.ground_risk_case.specs.Case.{fieldsOf, assessmentIn, outcomeOf, caseAnswer, frameLeft}
-use Rattle.ground_risk_case.specs.EndToEnd.{sheetIn, footprintIn, exactColumnIn, workingIn, ClassesShown, ClassesNotHigher, FrameTells, EndToEnd}
+use Rattle.ground_risk_case.specs.EndToEnd.{sheetIn, footprintIn, exactColumnIn, ClassesShown, ClassesNotHigher, FrameTells, EndToEnd}
 
 -- a final class is told by its byte
 class-fits : (z : ℤ) → negsuc 0 ≤ℤ z → z ≤ℤ pos 7 → ClassFits z
@@ -113,10 +111,15 @@ module _ (t : List ℕ) (none : assessmentIn t .refusal ≡ 0) where
         classes = shown;
         accuracy = demand .accuracy;
         flag-zero-or-one = rw (parts .sheet) (demand .flag-zero-or-one);
-        unflagged = λ e. same (demand .unflagged-column (sym (ap (λ (s : Sheet). s .flag) (parts .sheet)) ∙ e));
-        flagged = λ e. not-higher (sym (ap (λ (s : Sheet). s .flag) (parts .sheet)) ∙ e);
+        unflagged-column = λ e. rw (parts .sheet) (demand .unflagged-column (flag-is e));
+        flagged-column = λ e. rw (parts .sheet) (demand .flagged-column (flag-is e));
+        unflagged = λ e. same (demand .unflagged-column (flag-is e));
+        flagged = λ e. not-higher (flag-is e);
       }
     where
+      flag-is : {n : ℕ} → assessmentIn t .sheet .flag ≡ n → sheetIn t .flag ≡ n
+      flag-is e = sym (ap (λ (s : Sheet). s .flag) (parts .sheet)) ∙ e
+
       same : exactColumnIn t ≡ sheetIn t .column → ClassesShown t (exactColumnIn t) (fieldsOf (assessmentIn t))
       same e = rw e shown
 

@@ -1,3 +1,4 @@
 pub mod WaysOut
 pub mod EndToEndHolds
+pub mod AnswerShows
 pub mod PointsHold

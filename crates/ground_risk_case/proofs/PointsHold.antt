@@ -1,12 +1,20 @@
 -- P1 to P16.
-use mathlib.Core.Path.{_≡_, refl, sym, ap, ap₂, _∙_}
+use mathlib.Core.Path.{_≡_, sym, ap, _∙_, subst}
+use mathlib.Core.Bool.{Bool, cond}
+use mathlib.Core.Logic.{⊎-elim}
 use mathlib.Core.List.{List, [], _∷_, _++_, map}
-use Prim.Native.Nat.{ℕ}
-use borrow.Author.Tests.{eq-eqb}
+use Prim.Native.Nat.{ℕ, suc, _^_, _≤_, _<_}
+use native.Mathlib.Omega.{arith}
+use borrow.Author.Tests.{eq-eqb, ne-eqb, le-ltb}
+use lib.Dec.{eqb, lit≤}
+use lib.ListN.{length, getD, List·getD-eq-default}
 use Rattle.arithmetic.specs.Each.{Each}
 use Rattle.arithmetic.specs.Rounding.{divUp}
 use Rattle.arithmetic.specs.Tests.{anyBelow}
+use Rattle.arithmetic.specs.Lists.{stored}
 use Rattle.arithmetic.proofs.EachLaws.{each-append, each-map}
+use Rattle.arithmetic.proofs.ListLaws.{length-tabulate, tabulate-at}
+use Rattle.arithmetic.proofs.TestLaws.{lt-or-le, cond-le}
 use Rattle.sheet.specs.Lines.{runOf, savingOf, totalOf, areaOf}
 use Rattle.sheet.specs.Column.{columnBy, columnOf, flagOf}
 use Rattle.sheet.specs.Sheet.{withLines, linesOf, sheetOf}
@@ -22,13 +30,17 @@ use Rattle.assessment.specs.declared.Assessment.{Assessment}
 use Rattle.assessment.specs.Working.{afterClass, afterFootprint, workingOn}
 use Rattle.assessment.specs.Assessment.{assessedBy, assessmentOf}
 use Rattle.case_text.specs.declared.CaseHead.{CaseHead}
+use Rattle.case_text.specs.Layout.{rows, cells}
 use Rattle.case_text.specs.Text.{countsOf, marksOf, readingRefusal}
+use Rattle.case_text.specs.TextLaw.{CaseFields, textOf, fieldsOf as fieldsIn, Fits}
+use Rattle.case_text.proofs.TextProof.{text-law}
 use Rattle.frame.specs.declared.FrameFields.{FrameFields}
-use Rattle.frame.specs.Frame.{printed}
+use Rattle.frame.specs.Layout.{frameLength}
+use Rattle.frame.specs.Frame.{printed, framed}
 use Rattle.frame.specs.WorkedLines.{p16Fields, p16Line}
 use Rattle.frame.proofs.FrameProof.{worked-lines}
-use Rattle.ground_risk_case.specs.Case.{fieldsOf, assessmentIn, outcomeOf}
-use Rattle.ground_risk_case.specs.Points.{P16Text, P16Holds, WorkedPoint, aircraft, cell, mitigation, wholeCase, WorkedPointHolds, workedPoints, WorkedPointsHold}
+use Rattle.ground_risk_case.specs.Case.{fieldsOf, assessmentIn, outcomeOf, caseAnswer, frameLeft}
+use Rattle.ground_risk_case.specs.Points.{p16Head, P16Text, onlyFirst, p16Case, P16Holds, aircraft, cell, mitigation, wholeCase, WorkedPointHolds, WorkedPointsHold}
 
 -- what is shown of an assessment: the refusal, and the printed fields
 record Told : Type 0 where
@@ -39,11 +51,11 @@ abbrev told : Assessment → Told
 told a = record { refusal = a .refusal; fields = fieldsOf a }
 
 p16-assessment : (counts marks : List ℕ) → P16Map counts marks →
-    told (assessmentOf 1000 10000 2500 counts marks 10000 0 4096) ≡ record { refusal = 0; fields = p16Fields }
+    told (assessmentOf (p16Head .dimension) (p16Head .mass) (p16Head .speed) counts marks (p16Head .«cell_area») (p16Head .controlled) (p16Head .word)) ≡ record { refusal = 0; fields = p16Fields }
 unfolding assessmentOf assessedBy workingOn afterFootprint afterClass sheetOf linesOf withLines flagOf columnOf columnBy areaOf totalOf savingOf runOf divUp intrinsicClassOf classRefusal classAt finalClassOf mitigationRefusal creditAt anyBelow
 p16-assessment counts marks h = rw (p16-footprint counts marks h)
 
-p16-told : (t : List ℕ) → P16Text t → told (outcomeOf t 4096 64) ≡ record { refusal = 0; fields = p16Fields }
+p16-told : (t : List ℕ) → P16Text t → told (outcomeOf t cells rows) ≡ record { refusal = 0; fields = p16Fields }
 unfolding outcomeOf assessmentIn
 p16-told t h =
     simp (eq-eqb _ _ (h .read))
@@ -54,12 +66,77 @@ p16-line : printed 0 p16Fields ≡ p16Line
 unfolding printed
 p16-line = worked-lines .p16
 
+p16-printed : (t : List ℕ) → P16Text t → printed (outcomeOf t cells rows .refusal) (fieldsOf (outcomeOf t cells rows)) ≡ p16Line
+p16-printed t h = ap (λ (x : Told). printed (x .refusal) (x .fields)) (p16-told t h) ∙ p16-line
+
+p16-answer : (t : List ℕ) → P16Text t → (frame : List ℕ) → frameLength ≤ length frame → caseAnswer t cells rows (length frame) ≡ 0
+unfolding caseAnswer
+p16-answer t h frame long = simp (le-ltb (length frame) frameLength long) (ap (λ (x : Told). x .refusal) (p16-told t h))
+
+p16-bytes : (t : List ℕ) → P16Text t → (frame : List ℕ) → frameLength ≤ length frame → frameLeft t cells rows frame ≡ stored 0 p16Line frame
+unfolding frameLeft framed
+p16-bytes t h frame long = simp (le-ltb (length frame) frameLength long) (ap (λ (l : List ℕ). stored 0 l frame) (p16-printed t h))
+
+-- ---- the text of P16's fields
+
+module _ (x n : ℕ) where
+  only-le : (i : ℕ) → i < n → getD (onlyFirst x n) i 0 ≤ x
+  only-le i l = rw (tabulate-at (λ k. cond (eqb k 0) x 0) n i l) (cond-le (eqb i 0) {a = x} {b = 0} {k = x} (omega arith) (omega arith))
+
+  only-first : 0 < n → getD (onlyFirst x n) 0 0 ≡ x
+  only-first l = tabulate-at (λ k. cond (eqb k 0) x 0) n 0 l
+
+  only-others : (i : ℕ) → getD (onlyFirst x n) (suc i) 0 ≡ 0
+  only-others i =
+      ⊎-elim (λ (l : suc i < n). tabulate-at (λ k. cond (eqb k 0) x 0) n (suc i) l ∙ ap (λ (b : Bool). cond b x 0) (ne-eqb (suc i) 0 (λ e. omega arith)))
+      (λ (l : n ≤ suc i). List·getD-eq-default (onlyFirst x n) 0 (omega (arith, length-tabulate (λ k. cond (eqb k 0) x 0) n))) (lt-or-le (suc i) n)
+
+p16-fits : Fits p16Case
+p16-fits =
+    record {
+      dimension = lit≤ tt;
+      mass = lit≤ tt;
+      speed = lit≤ tt;
+      cell-area = lit≤ tt;
+      controlled = lit≤ tt;
+      word = lit≤ tt;
+      marks-long = length-tabulate _ rows;
+      mark = λ k l. omega (arith, only-le (2 ^ 63) rows k l);
+      counts-long = length-tabulate _ cells;
+      count = λ k l. omega (arith, only-le 8 cells k l);
+    }
+
+p16-map : P16Map (onlyFirst 8 cells) (onlyFirst (2 ^ 63) rows)
+p16-map =
+    record {
+      counts-length = length-tabulate _ cells;
+      marks-length = length-tabulate _ rows;
+      first-count = only-first 8 cells (lit≤ tt);
+      other-counts = only-others 8 cells;
+      first-marks = only-first (2 ^ 63) rows (lit≤ tt);
+      other-marks = only-others (2 ^ 63) rows;
+    }
+
+p16-read : readingRefusal (textOf p16Case) cells rows ≡ 0
+unfolding readingRefusal
+p16-read = simp (text-law .text-long p16Case, text-law .text-accepted p16Case)
+
+p16-text : P16Text (textOf p16Case)
+p16-text =
+    let is : fieldsIn (textOf p16Case) ≡ p16Case = text-law .fields-read p16Case p16-fits
+    in record {
+      read = p16-read;
+      head = ap (λ (f : CaseFields). f .head) is;
+      map = subst (λ (f : CaseFields). P16Map (f .counts) (f .marks)) (sym is) p16-map;
+    }
+
 p16-holds : P16Holds
 p16-holds =
     record {
-      refusal = λ t h. ap (λ (x : Told). x .refusal) (p16-told t h);
+      text = p16-text;
       fields = λ t h. ap (λ (x : Told). x .fields) (p16-told t h);
-      bytes = λ t h. ap (λ (x : Told). printed (x .refusal) (x .fields)) (p16-told t h) ∙ p16-line;
+      answer = p16-answer;
+      bytes = p16-bytes;
     }
 
 words-and-case : Each WorkedPointHolds (map mitigation finalPoints ++ (wholeCase ∷ []))

@@ -4,11 +4,9 @@ use mathlib.Core.Bool.{cond}
 use mathlib.Core.List.{List}
 use Prim.Native.Nat.{ℕ}
 use lib.Dec.{ltb, eqb}
-use lib.IntN.{pos}
 use lib.ListN.{length}
 use Rattle.assessment.specs.declared.Assessment.{Assessment}
 use Rattle.assessment.specs.Assessment.{refusedAssessment, assessmentOf}
-use Rattle.case_text.specs.declared.CaseHead.{CaseHead}
 use Rattle.case_text.specs.Text.{headOf, marksOf, countsOf, readingRefusal, leftIn}
 use Rattle.frame.specs.declared.FrameFields.{FrameFields}
 use Rattle.frame.specs.Layout.{frameLength}

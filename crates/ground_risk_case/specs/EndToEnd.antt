@@ -1,7 +1,8 @@
 -- Demand 3 at the bytes: what a frame says that was printed with no refusal.
 use mathlib.Core.Path.{_≡_}
+use mathlib.Core.Logic.{_⊎_}
 use mathlib.Core.List.{List}
-use Prim.Native.Nat.{ℕ, _≤_}
+use Prim.Native.Nat.{ℕ, _+_, _≤_}
 use lib.IntN.{ℤ}
 use lib.ListN.{length}
 use lib.Signed.{_≤ℤ_}
@@ -15,6 +16,7 @@ use Rattle.risk_class.specs.ClassTable.{usedRow}
 use Rattle.assessment.specs.Working.{given, Working, workingAt}
 use Rattle.case_text.specs.Text.{headOf, marksOf, countsOf}
 use Rattle.frame.specs.declared.FrameFields.{FrameFields}
+use Rattle.frame.specs.Layout.{frameLength}
 use Rattle.frame.specs.FrameLaw.{refusalIn, fieldsIn}
 use Rattle.ground_risk_case.specs.Case.{caseAnswer, frameLeft}
 
@@ -42,7 +44,8 @@ pub record ClassesNotHigher (t : List ℕ) (column : ℕ) (shown : FrameFields) 
   pub final-class : (lower : ℤ) × (workingIn t column .final ≡ given lower) × (lower ≤ℤ shown .«final_class»)
 
 -- a frame printed with no refusal for a text shows the sheet's, the footprint's and the classes' numbers of the fields in the text;
--- with the flag digits 00 the classes are those of the exact column, with 01 not lower than those
+-- with the flag digits 00 the column is the exact one and so are the classes; with 01 the column is the exact one or the next higher, and the
+-- classes are not lower than those of the exact one
 pub record FrameTells (t : List ℕ) (shown : FrameFields) : Type 0 where
   pub low : shown .low ≡ sheetIn t .area .low
   pub high : shown .high ≡ sheetIn t .area .high
@@ -54,6 +57,8 @@ pub record FrameTells (t : List ℕ) (shown : FrameFields) : Type 0 where
   pub classes : ClassesShown t (sheetIn t .column) shown
   pub accuracy : AreaIsAccurate (headOf t .dimension) (headOf t .mass) (headOf t .speed) (sheetIn t)
   pub flag-zero-or-one : shown .flag ≤ 1
+  pub unflagged-column : shown .flag ≡ 0 → exactColumnIn t ≡ shown .column
+  pub flagged-column : shown .flag ≡ 1 → (exactColumnIn t ≡ shown .column) ⊎ (exactColumnIn t + 1 ≡ shown .column)
   pub unflagged : shown .flag ≡ 0 → ClassesShown t (exactColumnIn t) shown
   pub flagged : shown .flag ≡ 1 → ClassesNotHigher t (exactColumnIn t) shown
 
@@ -62,3 +67,8 @@ abbrev pub EndToEnd : Type 0
 EndToEnd =
     (t : List ℕ) (counts marks : ℕ) (frame : List ℕ) → caseAnswer t counts marks (length frame) ≡ 0 →
     (refusalIn (frameLeft t counts marks frame) ≡ 0) × FrameTells t (fieldsIn (frameLeft t counts marks frame))
+
+-- and whatever it answers: a number that document 01 lists, which the first two digits of a frame buffer that is long enough show
+pub record AnswerShown (t : List ℕ) (counts marks : ℕ) (frame : List ℕ) : Type 0 where
+  pub listed : caseAnswer t counts marks (length frame) ≤ 15
+  pub shown : frameLength ≤ length frame → refusalIn (frameLeft t counts marks frame) ≡ caseAnswer t counts marks (length frame)

@@ -1,16 +1,22 @@
 -- P1 to P16 of document 01 as one table.
 use mathlib.Core.Path.{_≡_}
+use mathlib.Core.Bool.{cond}
 use mathlib.Core.List.{List, [], _∷_, _++_, map}
-use Prim.Native.Nat.{ℕ}
+use Prim.Native.Nat.{ℕ, _^_, _≤_}
+use lib.Dec.{eqb}
+use lib.ListN.{length}
 use Rattle.arithmetic.specs.Each.{Each}
+use Rattle.arithmetic.specs.Lists.{tabulate, stored}
 use Rattle.sheet.specs.Points.{SheetPoint, SheetPointHolds, sheetPoints}
 use Rattle.footprint.specs.Points.{RowPoint, RowPointHolds, rowPoints, P16Map}
 use Rattle.risk_class.specs.Points.{FinalPoint, FinalPointHolds, finalPoints}
 use Rattle.case_text.specs.declared.CaseHead.{CaseHead}
+use Rattle.case_text.specs.Layout.{rows, cells}
 use Rattle.case_text.specs.Text.{headOf, marksOf, countsOf, readingRefusal}
-use Rattle.frame.specs.Frame.{printed}
+use Rattle.case_text.specs.TextLaw.{CaseFields, textOf}
+use Rattle.frame.specs.Layout.{frameLength}
 use Rattle.frame.specs.WorkedLines.{p16Fields, p16Line}
-use Rattle.ground_risk_case.specs.Case.{fieldsOf, outcomeOf}
+use Rattle.ground_risk_case.specs.Case.{fieldsOf, outcomeOf, caseAnswer, frameLeft}
 
 -- P16's first line, `000003e800002710000009c400002710001000`
 abbrev pub p16Head : CaseHead
@@ -19,15 +25,23 @@ p16Head =
 
 -- a text with that first line, the first footprint line 8000000000000000, the first count 8, "all else zero"
 pub record P16Text (t : List ℕ) : Type 0 where
-  pub read : readingRefusal t 4096 64 ≡ 0
+  pub read : readingRefusal t cells rows ≡ 0
   pub head : headOf t ≡ p16Head
   pub map : P16Map (countsOf t) (marksOf t)
 
--- the printed frame's fields and bytes are those of P16's output
+-- n numbers, the first x and the others zero
+abbrev pub onlyFirst : ℕ → ℕ → List ℕ
+onlyFirst x n = tabulate (λ i. cond (eqb i 0) x 0) n
+
+abbrev pub p16Case : CaseFields
+p16Case = record { head = p16Head; marks = onlyFirst (2 ^ 63) rows; counts = onlyFirst 8 cells }
+
+-- there is such a text; of each one the printed fields are those of P16's output, the answer is 0, and its line stands in the frame buffer
 pub record P16Holds : Type 0 where
-  pub refusal : (t : List ℕ) → P16Text t → outcomeOf t 4096 64 .refusal ≡ 0
-  pub fields : (t : List ℕ) → P16Text t → fieldsOf (outcomeOf t 4096 64) ≡ p16Fields
-  pub bytes : (t : List ℕ) → P16Text t → printed (outcomeOf t 4096 64 .refusal) (fieldsOf (outcomeOf t 4096 64)) ≡ p16Line
+  pub text : P16Text (textOf p16Case)
+  pub fields : (t : List ℕ) → P16Text t → fieldsOf (outcomeOf t cells rows) ≡ p16Fields
+  pub answer : (t : List ℕ) → P16Text t → (frame : List ℕ) → frameLength ≤ length frame → caseAnswer t cells rows (length frame) ≡ 0
+  pub bytes : (t : List ℕ) → P16Text t → (frame : List ℕ) → frameLength ≤ length frame → frameLeft t cells rows frame ≡ stored 0 p16Line frame
 
 pub data WorkedPoint : Type 0 where
   aircraft : SheetPoint → WorkedPoint

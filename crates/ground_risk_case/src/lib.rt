@@ -1,6 +1,5 @@
 // The whole case, from its text to the printed frame.
 ghost use mathlib.Core.Path.{_≡_};
-ghost use Rattle.assessment.specs.Assessment.{refusedAssessment};
 ghost use Rattle.ground_risk_case.specs.Case.{fieldsOf, CasePromise};
 use assessment::Assessment;
 use assessment::assess;

@@ -6,9 +6,9 @@ ghost use Rattle.risk_class.specs.ClassTable.{classAt, usedRow, intrinsi
 // An entry that is "none".
 const NO_CLASS: u8 = 0;
 
-pub const COLUMNS: u8 = 5;
+pub(crate) const COLUMNS: u8 = 5;
 
-pub const ROWS: u8 = 7;
+pub(crate) const ROWS: u8 = 7;
 
 // Rows 1 to 7, row 1 for controlled ground, of columns 1 to 5.
 const CLASSES: [[u8; 5]; 7] = [
@@ -28,7 +28,7 @@ pub struct IntrinsicClass {
 }
 
 // The entry of the class table.
-pub fn entry(row: u8, column: u8) -> u8
+pub(crate) fn entry(row: u8, column: u8) -> u8
     requires { ⌜ (1 ≤ row) × (row ≤ 7) × (1 ≤ column) × (column ≤ 5) ⌝ }
     ensures { λ r. ⌜ r ≡ classAt row column ⌝ }
 {

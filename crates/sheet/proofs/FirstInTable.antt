@@ -1,25 +1,13 @@
 -- The walk over a table to the first entry that passes a test.
-use mathlib.Core.Path.{_≡_, refl, ap, _∙_, sym}
+use mathlib.Core.Path.{_≡_, refl, _∙_, sym}
 use mathlib.Core.Bool.{Bool, true, false, true≢false}
 use mathlib.Core.List.{List, [], _∷_}
 use Prim.Native.Nat.{ℕ, zero, suc, _+_, _≤_, _<_}
-use native.Mathlib.Numerals.{add-one}
 use native.Mathlib.Nat.{not-suc-le-zero, le-of-suc-le-suc}
 use native.Mathlib.Omega.{arith}
 use Rattle.arithmetic.proofs.TestLaws.{cond-le}
-use lib.ListN.{length, getD, drop}
-use lib.Seq.{drop-cons}
+use lib.ListN.{length, getD}
 use Rattle.sheet.specs.Column.{firstFrom}
-
--- entry k fails the test: the walk goes on past it
-pub first-later : (p : ℕ → Bool) (xs : List ℕ) (j k : ℕ) → k < length xs → p (getD xs k 0) ≡ false →
-    firstFrom p j (drop k xs) ≡ firstFrom p (suc j) (drop (k + 1) xs)
-first-later p xs j k h e = rw (add-one, drop-cons xs k 0 h) (simp e)
-
--- entry k passes it: the walk ends there
-pub first-here : (p : ℕ → Bool) (xs : List ℕ) (j k : ℕ) → k < length xs → p (getD xs k 0) ≡ true →
-    firstFrom p j (drop k xs) ≡ j
-first-here p xs j k h e = rw (drop-cons xs k 0 h) (simp e)
 
 -- a walk that counts from j ends before j and the table's length
 pub first-max : (p : ℕ → Bool) (xs : List ℕ) (j : ℕ) → firstFrom p (suc j) xs ≤ j + length xs

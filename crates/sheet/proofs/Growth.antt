@@ -1,12 +1,12 @@
 -- More speed or more mass never lowers an area.
-use Prim.Native.Nat.{ℕ, _+_, _*_, _/_, _≤_, _<_}
+use Prim.Native.Nat.{ℕ, _+_, _≤_, _<_}
 use native.Mathlib.Nat.{mul-le-mul, mul-le-mul-left, mul-le-mul-right, add-le-add, le-refl}
 use native.Mathlib.Omega.{arith}
 use lib.Dec.{lit<}
 use Rattle.arithmetic.proofs.RoundingLaws.{down-mono, up-mono, down-anti, up-anti}
-use Rattle.sheet.specs.Lines.{Formula, whole, sixTenths, glideOnly, formulaOf, runOf, savingOf, slideOf, totalAt, totalOf, areaNum, areaDen, areaOf}
+use Rattle.sheet.specs.Lines.{Formula, whole, sixTenths, glideOnly, formulaOf, runOf, savingOf, totalAt, totalOf, areaNum, areaDen, areaOf}
 use Rattle.sheet.specs.Sheet.{linesOf, withLines}
-use Rattle.sheet.specs.Laws.{AreaGrows, AreaGrowsWithMassAndSpeed}
+use Rattle.sheet.specs.Laws.{AreaGrowsWithMassAndSpeed}
 
 pub denominator-pos : (f : Formula) → 0 < areaDen f
 denominator-pos whole = lit< tt

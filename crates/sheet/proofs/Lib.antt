@@ -1,5 +1,6 @@
 pub mod FirstInTable
 pub mod LineBounds
+pub mod CountedColumn
 pub mod WaysOut
 pub mod Refusals
 pub mod Growth

@@ -2,7 +2,7 @@
 use mathlib.Core.Path.{_≡_, refl, sym, _∙_}
 use mathlib.Core.Bool.{Bool, true, false, cond, _||_, true≢false, false≢true}
 use mathlib.Core.Logic.{_↔_}
-use Prim.Native.Nat.{ℕ, _≤_, _<_}
+use Prim.Native.Nat.{ℕ, _≤_}
 use native.Mathlib.Nat.{le-refl}
 use lib.Dec.{ltb, lit≤}
 use borrow.Author.Tests.{ltb-true, ltb-false, lt-ltb, le-ltb}
@@ -13,7 +13,7 @@ use Rattle.sheet.specs.Column.{lastLimit}
 use Rattle.sheet.specs.declared.Sheet.{Sheet}
 use Rattle.sheet.specs.declared.SheetAnswer.{SheetAnswer}
 use Rattle.sheet.specs.Sheet.{linesOf, zeroSheet, refusedSheet, givenSheet, sheetOf}
-use Rattle.sheet.specs.Acceptance.{DimensionOut, MassOut, RefusedExactlyWhen, SheetIsGivenOrZero}
+use Rattle.sheet.specs.Acceptance.{RefusedExactlyWhen, SheetIsGivenOrZero}
 
 -- the ladder of the four tests
 ladder : Bool → Bool → Bool → Bool → Sheet → SheetAnswer

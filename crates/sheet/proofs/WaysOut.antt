@@ -1,5 +1,5 @@
 -- The answers of `sheetOf`, a law for each way out of its tests, and the formula that a dimension takes.
-use mathlib.Core.Path.{_≡_, refl}
+use mathlib.Core.Path.{_≡_}
 use mathlib.Core.Bool.{true, false}
 use Prim.Native.Nat.{ℕ, _≤_, _<_}
 use borrow.Author.Tests.{lt-ltb, le-ltb}

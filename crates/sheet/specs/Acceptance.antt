@@ -1,6 +1,6 @@
 -- When a sheet is given and when it is refused: "A refusal comes when its condition holds and at no other time."
 use mathlib.Core.Path.{_≡_}
-use mathlib.Core.Bool.{true, false}
+use mathlib.Core.Bool.{true}
 use mathlib.Core.Logic.{_↔_}
 use Prim.Native.Nat.{ℕ, _≤_, _<_}
 use Rattle.arithmetic.specs.Tests.{outside}

@@ -14,7 +14,7 @@ const WHOLE_ABOVE: u64 = 8_000;
 
 const SIX_TENTHS_ABOVE: u64 = 1_000;
 
-pub fn glide() -> Bracket
+pub(crate) fn glide() -> Bracket
     ensures { λ r. ⌜ r ≡ glideOf ⌝ }
 {
     Bracket {
@@ -23,7 +23,7 @@ pub fn glide() -> Bracket
     }
 }
 
-pub fn run(speed: u64) -> Bracket
+pub(crate) fn run(speed: u64) -> Bracket
     requires { ⌜ speed ≤ speedMax ⌝ }
     ensures { λ r. ⌜ r ≡ runOf speed ⌝ }
 {
@@ -32,7 +32,7 @@ pub fn run(speed: u64) -> Bracket
     Bracket { low, high }
 }
 
-pub fn saving(mass: u64) -> Bracket
+pub(crate) fn saving(mass: u64) -> Bracket
     requires { ⌜ 0 < mass ⌝ }
     ensures { λ r. ⌜ r ≡ savingOf mass ⌝ }
 {
@@ -42,7 +42,7 @@ pub fn saving(mass: u64) -> Bracket
 }
 
 // The low slide takes the high saving, and the high slide the low one, so that the exact slide lies between.
-pub fn slide(run: Bracket, saving: Bracket) -> Bracket
+pub(crate) fn slide(run: Bracket, saving: Bracket) -> Bracket
     ensures { λ r. ⌜ r ≡ slideOf run saving ⌝ }
 {
     let low = difference_or_zero(run.low, saving.high);
@@ -55,10 +55,10 @@ fn total_at(a: u64, glide: u64, slide: u64) -> u64
     requires { ⌜ (a ≤ aMax) × (glide ≤ glideMax) × (slide ≤ slideMax) ⌝ }
     ensures { λ r. ⌜ r ≡ totalAt a glide slide ⌝ }
 {
-    a * (glide + slide) + 785 * a * a
+    a * (glide + slide + 785 * a)
 }
 
-pub fn total(a: u64, glide: Bracket, slide: Bracket) -> Bracket
+pub(crate) fn total(a: u64, glide: Bracket, slide: Bracket) -> Bracket
     requires { ⌜ (a ≤ aMax) × AtMost glide glideMax × AtMost slide slideMax ⌝ }
     ensures { λ r. ⌜ r ≡ totalOf a glide slide ⌝ }
 {
@@ -72,7 +72,7 @@ fn glide_only_at(a: u64, glide: u64) -> u64
     requires { ⌜ (a ≤ aMax) × (glide ≤ glideMax) ⌝ }
     ensures { λ r. ⌜ r ≡ glideOnlyAt a glide ⌝ }
 {
-    2 * a * glide + 785 * a * a
+    a * (2 * glide + 785 * a)
 }
 
 // A numerator's two ends over one denominator, the low one rounded down and the high one up.
@@ -88,7 +88,7 @@ fn rounded(low: u64, high: u64, denominator: u64) -> Bracket
     }
 }
 
-pub fn area(dimension: u64, glide: Bracket, total: Bracket) -> Bracket
+pub(crate) fn area(dimension: u64, glide: Bracket, total: Bracket) -> Bracket
     requires { ⌜ (dimension ≤ dimensionMax) × AtMost glide glideMax × AtMost total totalMax ⌝ }
     ensures { λ r. ⌜ r ≡ areaOf (formulaOf dimension) (dimension + 600) glide total ⌝ }
 {

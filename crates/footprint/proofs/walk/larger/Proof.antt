@@ -1,7 +1,7 @@
 -- `larger` gives the larger of two keys: below the sign bit a signed comparison is that of the numbers.
 use mathlib.Core.Path.{_≡_, sym, _∙_, ap₂}
 use mathlib.Core.Bool.{true, false}
-use Prim.Native.Nat.{ℕ, _^_, _<_, max}
+use Prim.Native.Nat.{ℕ, _^_, _<_}
 use native.Mathlib.Omega.{arith}
 use borrow.Author.Needs.{needs}
 use borrow.Author.Tests.{ltb-true, ltb-false}

@@ -1,6 +1,4 @@
 -- `saving` gives line 3 with one division.
-use mathlib.Core.Path.{_≡_, sym}
-use Prim.Native.Nat.{ℕ, _/_, _≤_}
 use native.Mathlib.Nat.{div-le-self}
 use native.Mathlib.Omega.{arith}
 use Rattle.arithmetic.proofs.RoundingLaws.{up-next}

@@ -9,20 +9,16 @@ add-result : tie.Need-add-result
 add-result c = search needs
 
 mul-result : tie.Need-mul-result
-mul-result c = omega (arith, mul-le-mul (c .pre .0) (add-le-add (c .pre .1) (c .pre .2)))
-
-mul-result-2 : tie.Need-mul-result-2
-mul-result-2 c = search needs
-
-mul-result-3 : tie.Need-mul-result-3
-mul-result-3 c = omega (arith, mul-le-mul (c .pre .0) (c .pre .0))
+mul-result c = search needs
 
 add-result-2 : tie.Need-add-result-2
-add-result-2 c = omega (arith, mul-le-mul (c .pre .0) (add-le-add (c .pre .1) (c .pre .2)), mul-le-mul (c .pre .0) (c .pre .0))
+add-result-2 c = search needs
+
+mul-result-2 : tie.Need-mul-result-2
+mul-result-2 c = omega (arith, mul-le-mul (c .pre .0) (add-le-add (c .pre .1) (c .pre .2)), mul-le-mul (c .pre .0) (c .pre .0))
 
 returns : tie.Need-returns
 returns c = search needs
 
 pub total-at-spec : {M : Type 1} → statement M
-total-at-spec =
-    tie.close (tie.spec add-result mul-result mul-result-2 mul-result-3 add-result-2 returns)
+total-at-spec = tie.close (tie.spec add-result mul-result add-result-2 mul-result-2 returns)

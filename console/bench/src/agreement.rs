@@ -1,0 +1,148 @@
+//! All contestants answer alike, and leave alike what is lent, on good and on damaged inputs.
+
+use crate::inputs::{self, Map, Random};
+use crate::{library, obvious, tuned};
+use nuggetbay::{Footprint, Reading, SheetAnswer};
+
+pub struct Tally {
+    pub inputs: usize,
+    pub refused: usize,
+}
+
+fn sheet_answer(result: Result<nuggetbay::Sheet, u8>) -> SheetAnswer {
+    match result {
+        Ok(sheet) => SheetAnswer { refusal: 0, sheet },
+        Err(refusal) => SheetAnswer { refusal, ..Default::default() },
+    }
+}
+
+pub fn sheets(random: &mut Random, tally: &mut Tally) {
+    for i in 0..200_000 {
+        let mut a = inputs::any_aircraft(random);
+        let anything = (random.next() >> 32) as u32 >> random.below(32);
+        match i % 20 {
+            0 => a.dimension = anything,
+            1 => a.mass = anything,
+            2 => a.speed = anything,
+            _ => {}
+        }
+        let answer = library::sheet(a.dimension, a.mass, a.speed);
+        assert_eq!(answer, sheet_answer(obvious::sheet(a.dimension, a.mass, a.speed)));
+        assert_eq!(answer, tuned::sheet(a.dimension, a.mass, a.speed));
+        tally.inputs += 1;
+        tally.refused += usize::from(answer.refusal != 0);
+    }
+}
+
+fn footprint_answer(result: Result<Footprint, u8>) -> Footprint {
+    result.unwrap_or_else(|refusal| Footprint { refusal, ..Default::default() })
+}
+
+fn damaged_map(random: &mut Random, kind: usize, mut map: Map) -> Map {
+    let place = random.below(4096) as usize;
+    match kind {
+        0 => map.counts[place] = 1_000_001,
+        1 => map.counts[place] = u32::MAX,
+        2 => map.cell_area = random.one_of(&[0, 99, 25_000_001, u32::MAX]),
+        3 => map.marks = vec![0; 64],
+        4 => drop(map.counts.pop()),
+        5 => map.marks.push(1),
+        // one marked cell
+        6 => {
+            map.marks = vec![0; 64];
+            map.marks[place / 64] = 1 << (place % 64);
+        }
+        // ties, and nobody at all
+        7 => map.counts.iter_mut().for_each(|count| *count %= 3),
+        8 => map.counts.fill(0),
+        _ => map.cell_area = random.between(100, 25_000_000),
+    }
+    map
+}
+
+pub fn footprints(random: &mut Random, tally: &mut Tally) {
+    for i in 0..4_000 {
+        let map = if i % 2 == 0 { inputs::full_map(random) } else { inputs::sparse_map(random) };
+        let map = damaged_map(random, i / 2 % 20, map);
+        let answer = library::footprint(&map.counts, &map.marks, map.cell_area);
+        assert_eq!(answer, footprint_answer(obvious::footprint(&map.counts, &map.marks, map.cell_area)));
+        assert_eq!(answer, tuned::footprint(&map.counts, &map.marks, map.cell_area));
+        tally.inputs += 1;
+        tally.refused += usize::from(answer.refusal != 0);
+    }
+}
+
+/// What is lent to a case, and its answer.
+#[derive(Clone, PartialEq, Eq, Debug)]
+struct Lent {
+    answer: u8,
+    reading: Reading,
+    counts: Vec<u32>,
+    marks: Vec<u64>,
+    frame: Vec<u8>,
+}
+
+type ReadCase = fn(&[u8], &mut [u32], &mut [u64]) -> Reading;
+type Case = fn(&[u8], &mut [u32], &mut [u64], &mut [u8]) -> u8;
+
+fn obvious_reading(text: &[u8], counts: &mut [u32], marks: &mut [u64]) -> Reading {
+    match obvious::read_case(text, counts, marks) {
+        Ok(fields) => Reading { refusal: 0, fields },
+        Err(refusal) => Reading { refusal, ..Default::default() },
+    }
+}
+
+fn run(text: &[u8], before: &Lent, read_case: ReadCase, case: Case) -> (Lent, Lent) {
+    let mut read = before.clone();
+    read.reading = read_case(text, &mut read.counts, &mut read.marks);
+    let mut printed = before.clone();
+    printed.answer = case(text, &mut printed.counts, &mut printed.marks, &mut printed.frame);
+    (read, printed)
+}
+
+fn damaged_text(random: &mut Random, kind: usize, text: &mut Vec<u8>, lent: &mut Lent) {
+    let place = random.below(text.len() as u64) as usize;
+    match kind {
+        0 => text[place] = random.one_of(b"/:@AFG`g\n\0\xff "),
+        1 => drop(text.pop()),
+        2 => text.push(b'\n'),
+        3 => text.clear(),
+        4 => drop(lent.counts.pop()),
+        5 => lent.marks.push(9),
+        6 => lent.frame.truncate(40),
+        7 => lent.frame.resize(64, 7),
+        // the last line end, and the first byte
+        8 => *text.last_mut().expect("not empty") = b'0',
+        9 => text[0] = b'F',
+        // the digits of line 1
+        10..=14 => text[random.below(38) as usize] = random.one_of(b"0123456789abcdef"),
+        // any digit
+        _ if text[place] != b'\n' => text[place] = random.one_of(b"0123456789abcdef"),
+        _ => {}
+    }
+}
+
+pub fn cases(random: &mut Random, tally: &mut Tally) {
+    for i in 0..2_000 {
+        let map = if i % 2 == 0 { inputs::full_map(random) } else { inputs::sparse_map(random) };
+        let damage = random.below(4) as usize;
+        let map = if i % 5 == 0 { damaged_map(random, damage, map) } else { map };
+        let aircraft = if i % 3 == 0 { inputs::any_aircraft(random) } else { inputs::small_aircraft(random) };
+        let controlled = random.one_of(&[0, 0, 0, 1, 2]);
+        let word = random.one_of(&[0, 0x2212, 0x2313, 0x0003, 0x1000, 0x0100, 0x3000]);
+        let mut text = inputs::text(aircraft, &map, controlled, word);
+        let mut lent = Lent {
+            answer: 0,
+            reading: Reading::default(),
+            counts: vec![7; 4096],
+            marks: vec![9; 64],
+            frame: vec![5; 41],
+        };
+        damaged_text(random, i / 2 % 30, &mut text, &mut lent);
+        let answer = run(&text, &lent, library::read_case, library::case);
+        assert_eq!(answer, run(&text, &lent, obvious_reading, obvious::case));
+        assert_eq!(answer, run(&text, &lent, tuned::read_case, tuned::case));
+        tally.inputs += 1;
+        tally.refused += usize::from(answer.1.answer != 0);
+    }
+}

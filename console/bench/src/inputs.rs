@@ -1,0 +1,106 @@
+//! The inputs of the benchmark, from a fixed seed.
+
+use std::fmt::Write;
+
+pub struct Random(pub u64);
+
+impl Random {
+    pub fn next(&mut self) -> u64 {
+        self.0 ^= self.0 << 13;
+        self.0 ^= self.0 >> 7;
+        self.0 ^= self.0 << 17;
+        self.0
+    }
+
+    pub fn below(&mut self, n: u64) -> u64 {
+        (self.next() >> 11) % n
+    }
+
+    pub fn between(&mut self, low: u32, high: u32) -> u32 {
+        low + self.below(u64::from(high - low) + 1) as u32
+    }
+
+    pub fn one_of<T: Copy>(&mut self, choices: &[T]) -> T {
+        choices[self.below(choices.len() as u64) as usize]
+    }
+}
+
+#[derive(Clone, Copy)]
+pub struct Aircraft {
+    pub dimension: u32,
+    pub mass: u32,
+    pub speed: u32,
+}
+
+/// Of all sizes, masses and speeds; a few are refused for their area.
+pub fn any_aircraft(random: &mut Random) -> Aircraft {
+    let dimension = random.one_of(&[(50, 1_000), (1_001, 8_000), (8_001, 20_000), (20_001, 100_000)]);
+    let mass = random.one_of(&[(50, 1_000), (1_001, 25_000), (25_001, 1_000_000), (1_000_001, 25_000_000)]);
+    let speed = random.one_of(&[(0, 2_500), (2_501, 7_500), (7_501, 20_000), (20_001, 40_000)]);
+    Aircraft {
+        dimension: random.between(dimension.0, dimension.1),
+        mass: random.between(mass.0, mass.1),
+        speed: random.between(speed.0, speed.1),
+    }
+}
+
+/// Of column 1, so that every row of the class table has a class.
+pub fn small_aircraft(random: &mut Random) -> Aircraft {
+    Aircraft {
+        dimension: random.between(300, 1_000),
+        mass: random.between(250, 25_000),
+        speed: random.between(0, 3_000),
+    }
+}
+
+#[derive(Clone)]
+pub struct Map {
+    pub counts: Vec<u32>,
+    pub marks: Vec<u64>,
+    pub cell_area: u32,
+}
+
+/// Counts up to a million in every cell, half of the cells marked.
+pub fn full_map(random: &mut Random) -> Map {
+    Map {
+        counts: (0..4096).map(|_| random.between(0, 1_000_000)).collect(),
+        marks: (0..64).map(|_| random.next()).collect(),
+        cell_area: random.between(1_000_000, 25_000_000),
+    }
+}
+
+/// One cell in twenty is inhabited, by at most 49 people; a block of 10 rows and 20 columns is marked.
+pub fn sparse_map(random: &mut Random) -> Map {
+    let (top, east) = (random.below(55), random.below(45));
+    Map {
+        counts: (0..4096).map(|_| if random.below(20) == 0 { random.between(0, 49) } else { 0 }).collect(),
+        marks: (0..64).map(|row| if (top..top + 10).contains(&row) { 0xf_ffff << east } else { 0 }).collect(),
+        cell_area: random.between(10_000, 1_000_000),
+    }
+}
+
+pub fn text(aircraft: Aircraft, map: &Map, controlled: u8, word: u16) -> Vec<u8> {
+    let mut text = String::with_capacity(33_959);
+    let Aircraft { dimension, mass, speed } = aircraft;
+    let cell_area = map.cell_area;
+    writeln!(text, "{dimension:08x}{mass:08x}{speed:08x}{cell_area:08x}{controlled:02x}{word:04x}")
+        .expect("a String grows");
+    for mark in &map.marks {
+        writeln!(text, "{mark:016x}").expect("a String grows");
+    }
+    for row in map.counts.chunks(64) {
+        for count in row {
+            write!(text, "{count:08x}").expect("a String grows");
+        }
+        text.push('\n');
+    }
+    text.into_bytes()
+}
+
+pub fn texts(random: &mut Random, map: fn(&mut Random) -> Map) -> Vec<Vec<u8>> {
+    (0..TEXTS).map(|_| text(small_aircraft(random), &map(random), 0, 0)).collect()
+}
+
+pub const TEXTS: usize = 16;
+pub const MAPS: usize = 64;
+pub const AIRCRAFT: usize = 1024;

@@ -1,0 +1,241 @@
+//! The operations as one would write them first: match, early exits, Option and Result, u128 where a product might be long.
+
+use nuggetbay::{Bracket, CaseHead, Footprint, FrameFields, Sheet};
+use std::io::Write;
+
+const LIMITS: [u64; 5] = [65_000, 650_000, 6_500_000, 65_000_000, 650_000_000];
+
+#[inline(never)]
+pub fn sheet(dimension: u32, mass: u32, speed: u32) -> Result<Sheet, u8> {
+    if !(50..=100_000).contains(&dimension) {
+        return Err(1);
+    }
+    if !(50..=25_000_000).contains(&mass) {
+        return Err(2);
+    }
+    if speed > 40_000 {
+        return Err(3);
+    }
+    let glide = Bracket { low: 2_570_666, high: 2_570_667 };
+    let square = u128::from(speed) * u128::from(speed);
+    let run = Bracket {
+        low: (square * 1_926_617_433 / 1_000_000_000) as u64,
+        high: (square * 1_926_617_434).div_ceil(1_000_000_000) as u64,
+    };
+    let mass = u64::from(mass);
+    let saving = Bracket { low: 39_415_562_351 / mass, high: 39_415_562_352u64.div_ceil(mass) };
+    let slide = Bracket { low: run.low.saturating_sub(saving.high), high: run.high.saturating_sub(saving.low) };
+    let a = u64::from(dimension) + 600;
+    let total_at = |glide: u64, slide: u64| a * (glide + slide) + 785 * a * a;
+    let total = Bracket { low: total_at(glide.low, slide.low), high: total_at(glide.high, slide.high) };
+    let area = if dimension > 8_000 {
+        Bracket { low: total.low / 100_000, high: total.high.div_ceil(100_000) }
+    } else if dimension > 1_000 {
+        Bracket { low: 3 * total.low / 500_000, high: (3 * total.high).div_ceil(500_000) }
+    } else {
+        let without_slide = |glide: u64| 2 * a * glide + 785 * a * a;
+        Bracket { low: without_slide(glide.low) / 200_000, high: without_slide(glide.high).div_ceil(200_000) }
+    };
+    let Some(column) = LIMITS.iter().position(|&limit| limit >= area.high) else {
+        return Err(4);
+    };
+    let flag = column > 0 && area.low <= LIMITS[column - 1];
+    Ok(Sheet { glide, run, saving, slide, total, area, column: column as u8 + 1, flag: u8::from(flag) })
+}
+
+fn table_row(people: u32, cell_area: u32) -> u8 {
+    let people = u64::from(people) * 1_000_000;
+    let area = u64::from(cell_area);
+    match () {
+        _ if people < 5 * area => 2,
+        _ if people < 50 * area => 3,
+        _ if people < 500 * area => 4,
+        _ if people < 5_000 * area => 5,
+        _ if people < 50_000 * area => 6,
+        _ => 7,
+    }
+}
+
+#[inline(never)]
+pub fn footprint(counts: &[u32], marks: &[u64], cell_area: u32) -> Result<Footprint, u8> {
+    if counts.len() != 4096 || marks.len() != 64 {
+        return Err(5);
+    }
+    if !(100..=25_000_000).contains(&cell_area) {
+        return Err(6);
+    }
+    if counts.iter().any(|&count| count > 1_000_000) {
+        return Err(7);
+    }
+    let mut worst: Option<(u32, u32)> = None;
+    let mut answer = Footprint::default();
+    for (r, &bits) in marks.iter().enumerate() {
+        for c in 0..64 {
+            if (bits >> (63 - c)) & 1 == 0 {
+                continue;
+            }
+            let place = 64 * r + c;
+            let people = counts[place];
+            answer.row = answer.row.max(table_row(people, cell_area));
+            answer.people += u64::from(people);
+            answer.cells += 1;
+            match worst {
+                Some((most, _)) if people <= most => {}
+                _ => worst = Some((people, place as u32)),
+            }
+        }
+    }
+    let (_, place) = worst.ok_or(8)?;
+    answer.place = place;
+    Ok(answer)
+}
+
+const CLASSES: [[Option<u8>; 5]; 7] = [
+    [Some(1), Some(1), Some(2), Some(3), Some(3)],
+    [Some(2), Some(3), Some(4), Some(5), Some(6)],
+    [Some(3), Some(4), Some(5), Some(6), Some(7)],
+    [Some(4), Some(5), Some(6), Some(7), Some(8)],
+    [Some(5), Some(6), Some(7), Some(8), Some(9)],
+    [Some(6), Some(7), Some(8), Some(9), Some(10)],
+    [Some(7), Some(8), None, None, None],
+];
+
+fn intrinsic_class(column: u8, row: u8, controlled: u8) -> Result<u8, u8> {
+    if !(1..=5).contains(&column) || !(2..=7).contains(&row) || controlled > 1 {
+        return Err(9);
+    }
+    let row = if controlled == 1 { 1 } else { row };
+    CLASSES[usize::from(row) - 1][usize::from(column) - 1].ok_or(10)
+}
+
+fn credit(which: usize, digit: u16) -> Option<i8> {
+    match (which, digit) {
+        (_, 0) => Some(0),
+        (0, 1) => Some(1),
+        (0, 2) => Some(2),
+        (1, 2) => Some(1),
+        (1, 3) => Some(2),
+        (2, 1) => Some(1),
+        (3, 2) => Some(1),
+        (3, 3) => Some(2),
+        _ => None,
+    }
+}
+
+fn final_class(column: u8, class: u8, word: u16) -> Result<i8, u8> {
+    if !(1..=5).contains(&column) {
+        return Err(9);
+    }
+    let column = usize::from(column) - 1;
+    if !CLASSES.iter().any(|row| row[column] == Some(class)) {
+        return Err(9);
+    }
+    let mut credits = [0i8; 4];
+    for (which, credit_of_digit) in credits.iter_mut().enumerate() {
+        *credit_of_digit = credit(which, (word >> (12 - 4 * which)) & 15).ok_or(11)?;
+    }
+    let floor = CLASSES[0][column].unwrap_or(0) as i8;
+    let last = (class as i8 - credits[0] - credits[1] - credits[2]).max(floor) - credits[3];
+    if last > 7 {
+        return Err(12);
+    }
+    Ok(last)
+}
+
+fn digit(byte: u8) -> Option<u64> {
+    match byte {
+        b'0'..=b'9' => Some(u64::from(byte - b'0')),
+        b'a'..=b'f' => Some(u64::from(byte - b'a' + 10)),
+        _ => None,
+    }
+}
+
+fn number(digits: &[u8]) -> Option<u64> {
+    let mut value = 0;
+    for &byte in digits {
+        value = value * 16 + digit(byte)?;
+    }
+    Some(value)
+}
+
+/// Everything is read into locals first, since a refused reading changes neither buffer.
+fn parse(text: &[u8], counts: &mut [u32], marks: &mut [u64]) -> Option<CaseHead> {
+    let mut lines = text.split(|&byte| byte == b'\n');
+    let first = lines.next().filter(|line| line.len() == 38)?;
+    let head = CaseHead {
+        dimension: number(&first[0..8])? as u32,
+        mass: number(&first[8..16])? as u32,
+        speed: number(&first[16..24])? as u32,
+        cell_area: number(&first[24..32])? as u32,
+        controlled: number(&first[32..34])? as u8,
+        word: number(&first[34..38])? as u16,
+    };
+    let mut read_marks = [0u64; 64];
+    for mark in read_marks.iter_mut() {
+        let line = lines.next().filter(|line| line.len() == 16)?;
+        *mark = number(line)?;
+    }
+    let mut read_counts = [0u32; 4096];
+    for row in read_counts.chunks_mut(64) {
+        let line = lines.next().filter(|line| line.len() == 512)?;
+        for (count, digits) in row.iter_mut().zip(line.chunks(8)) {
+            *count = number(digits)? as u32;
+        }
+    }
+    lines.next().filter(|rest| rest.is_empty())?;
+    counts.copy_from_slice(&read_counts);
+    marks.copy_from_slice(&read_marks);
+    Some(head)
+}
+
+#[inline(never)]
+pub fn read_case(text: &[u8], counts: &mut [u32], marks: &mut [u64]) -> Result<CaseHead, u8> {
+    if text.len() != 33_959 {
+        return Err(13);
+    }
+    if counts.len() != 4096 || marks.len() != 64 {
+        return Err(5);
+    }
+    parse(text, counts, marks).ok_or(14)
+}
+
+fn working(text: &[u8], counts: &mut [u32], marks: &mut [u64]) -> Result<FrameFields, u8> {
+    let head = read_case(text, counts, marks)?;
+    let sheet = sheet(head.dimension, head.mass, head.speed)?;
+    let footprint = footprint(counts, marks, head.cell_area)?;
+    let intrinsic = intrinsic_class(sheet.column, footprint.row, head.controlled)?;
+    let final_class = final_class(sheet.column, intrinsic, head.word)?;
+    Ok(FrameFields {
+        low: sheet.area.low,
+        high: sheet.area.high,
+        column: sheet.column,
+        flag: sheet.flag,
+        row: if head.controlled == 1 { 1 } else { footprint.row },
+        place: footprint.place,
+        people: footprint.people,
+        intrinsic,
+        final_class,
+    })
+}
+
+#[inline(never)]
+pub fn case(text: &[u8], counts: &mut [u32], marks: &mut [u64], mut frame: &mut [u8]) -> u8 {
+    if frame.len() < 41 {
+        return 15;
+    }
+    match working(text, counts, marks) {
+        Ok(f) => {
+            writeln!(
+                frame,
+                "00{:08x}{:08x}{:02x}{:02x}{:02x}{:04x}{:08x}{:02x}{:02x}",
+                f.low, f.high, f.column, f.flag, f.row, f.place, f.people, f.intrinsic, f.final_class
+            )
+            .expect("the buffer was found long enough");
+            0
+        }
+        Err(refusal) => {
+            writeln!(frame, "{refusal:02x}").expect("the buffer was found long enough");
+            refusal
+        }
+    }
+}

@@ -1,0 +1,350 @@
+//! The operations tuned by hand for the same target (x86-64 with SSE2, safe Rust, no intrinsics): no early exit where bytes or
+//! cells are walked, lanes of digits, cells chosen by masks, one division where two quotients differ by one.
+
+// A sum and one division by a constant; div_ceil would also take the remainder.
+#![allow(clippy::manual_div_ceil)]
+
+use nuggetbay::{Bracket, CaseHead, Footprint, FrameFields, Reading, Sheet, SheetAnswer};
+
+const LIMITS: [u64; 5] = [65_000, 650_000, 6_500_000, 65_000_000, 650_000_000];
+
+fn refused_sheet(refusal: u8) -> SheetAnswer {
+    SheetAnswer { refusal, ..Default::default() }
+}
+
+#[inline(never)]
+pub fn sheet(dimension: u32, mass: u32, speed: u32) -> SheetAnswer {
+    if dimension.wrapping_sub(50) > 99_950 {
+        return refused_sheet(1);
+    }
+    if mass.wrapping_sub(50) > 24_999_950 {
+        return refused_sheet(2);
+    }
+    if speed > 40_000 {
+        return refused_sheet(3);
+    }
+    let square = u64::from(speed) * u64::from(speed);
+    let run = Bracket {
+        low: square * 1_926_617_433 / 1_000_000_000,
+        high: (square * 1_926_617_434 + 999_999_999) / 1_000_000_000,
+    };
+    // one more than the low dividend: its quotient rounded up is the low quotient and one
+    let low = 39_415_562_351 / u64::from(mass);
+    let saving = Bracket { low, high: low + 1 };
+    let slide = Bracket { low: run.low.saturating_sub(saving.high), high: run.high.saturating_sub(saving.low) };
+    let a = u64::from(dimension) + 600;
+    let round = 785 * a;
+    let total = Bracket { low: a * (2_570_666 + slide.low + round), high: a * (2_570_667 + slide.high + round) };
+    let area = if dimension > 8_000 {
+        Bracket { low: total.low / 100_000, high: (total.high + 99_999) / 100_000 }
+    } else if dimension > 1_000 {
+        Bracket { low: 3 * total.low / 500_000, high: (3 * total.high + 499_999) / 500_000 }
+    } else {
+        Bracket { low: a * (5_141_332 + round) / 200_000, high: (a * (5_141_334 + round) + 199_999) / 200_000 }
+    };
+    if area.high > LIMITS[4] {
+        return refused_sheet(4);
+    }
+    let before = LIMITS[..4].iter().map(|&limit| usize::from(area.high > limit)).sum::<usize>();
+    let flag = (before > 0) & (area.low <= LIMITS[before.wrapping_sub(1) & 3]);
+    let glide = Bracket { low: 2_570_666, high: 2_570_667 };
+    let sheet = Sheet { glide, run, saving, slide, total, area, column: before as u8 + 1, flag: u8::from(flag) };
+    SheetAnswer { refusal: 0, sheet }
+}
+
+fn table_row(people: u32, cell_area: u32) -> u8 {
+    let people = u64::from(people) * 1_000_000;
+    let area = u64::from(cell_area);
+    let reached = |density: u64| u8::from(people >= density * area);
+    2 + reached(5) + reached(50) + reached(500) + reached(5_000) + reached(50_000)
+}
+
+/// For each four bits of a footprint row, all ones where a bit is set.
+static FOUR_CELLS: [[u32; 4]; 16] = {
+    let mut masks = [[0; 4]; 16];
+    let mut bits = 0;
+    while bits < 16 {
+        let mut cell = 0;
+        while cell < 4 {
+            if (bits >> (3 - cell)) & 1 == 1 {
+                masks[bits][cell] = u32::MAX;
+            }
+            cell += 1;
+        }
+        bits += 1;
+    }
+    masks
+};
+
+/// The largest key (count + 1) and the sum of the keys of a row's marked cells, in eight lanes. Signed, since SSE2 compares
+/// signed numbers only.
+fn walk_row(counts: &[u32; 64], bits: u64) -> (u32, u32) {
+    let mut largest = [0i32; 8];
+    let mut sums = [0i32; 8];
+    for eight in 0..8 {
+        let west = &FOUR_CELLS[(bits >> (60 - 8 * eight)) as usize & 15];
+        let east = &FOUR_CELLS[(bits >> (56 - 8 * eight)) as usize & 15];
+        for cell in 0..4 {
+            let key = ((counts[8 * eight + cell] + 1) & west[cell]) as i32;
+            sums[cell] += key;
+            largest[cell] = largest[cell].max(key);
+        }
+        for cell in 0..4 {
+            let key = ((counts[8 * eight + 4 + cell] + 1) & east[cell]) as i32;
+            sums[4 + cell] += key;
+            largest[4 + cell] = largest[4 + cell].max(key);
+        }
+    }
+    let mut worst = 0;
+    let mut sum = 0;
+    for lane in 0..8 {
+        worst = worst.max(largest[lane]);
+        sum += sums[lane];
+    }
+    (worst as u32, sum as u32)
+}
+
+fn refused_footprint(refusal: u8) -> Footprint {
+    Footprint { refusal, ..Default::default() }
+}
+
+#[inline(never)]
+pub fn footprint(counts: &[u32], marks: &[u64], cell_area: u32) -> Footprint {
+    let (Ok(counts), Ok(marks)) = (<&[u32; 4096]>::try_from(counts), <&[u64; 64]>::try_from(marks)) else {
+        return refused_footprint(5);
+    };
+    if cell_area.wrapping_sub(100) > 24_999_900 {
+        return refused_footprint(6);
+    }
+    if counts.iter().fold(false, |any, &count| any | (count > 1_000_000)) {
+        return refused_footprint(7);
+    }
+    let (mut worst, mut worst_row, mut keys, mut cells) = (0, 0, 0u64, 0);
+    for (r, (row, &bits)) in counts.chunks_exact(64).zip(marks).enumerate() {
+        if bits == 0 {
+            continue;
+        }
+        let row: &[u32; 64] = row.try_into().expect("chunks of 64");
+        let (largest, sum) = walk_row(row, bits);
+        keys += u64::from(sum);
+        cells += bits.count_ones();
+        if largest > worst {
+            worst = largest;
+            worst_row = r;
+        }
+    }
+    if cells == 0 {
+        return refused_footprint(8);
+    }
+    let row = &counts[64 * worst_row..64 * worst_row + 64];
+    let bits = marks[worst_row];
+    let first = (0..64).find(|&c| ((bits >> (63 - c)) & 1 == 1) & (row[c] + 1 == worst)).unwrap_or(0);
+    Footprint {
+        refusal: 0,
+        row: table_row(worst - 1, cell_area),
+        place: (64 * worst_row + first) as u32,
+        people: keys - u64::from(cells),
+        cells,
+    }
+}
+
+/// 0 is "none".
+static CLASSES: [[u8; 5]; 7] = [
+    [1, 1, 2, 3, 3],
+    [2, 3, 4, 5, 6],
+    [3, 4, 5, 6, 7],
+    [4, 5, 6, 7, 8],
+    [5, 6, 7, 8, 9],
+    [6, 7, 8, 9, 10],
+    [7, 8, 0, 0, 0],
+];
+
+/// 64 is "not offered".
+static CREDITS: [[u8; 16]; 4] = {
+    let mut credits = [[64; 16]; 4];
+    credits[0][0] = 0;
+    credits[0][1] = 1;
+    credits[0][2] = 2;
+    credits[1][0] = 0;
+    credits[1][2] = 1;
+    credits[1][3] = 2;
+    credits[2][0] = 0;
+    credits[2][1] = 1;
+    credits[3][0] = 0;
+    credits[3][2] = 1;
+    credits[3][3] = 2;
+    credits
+};
+
+/// Both classes of a sheet's column and a footprint's row; the column is known to be 1 to 5 and the row 2 to 7.
+fn classes(column: u8, row: u8, controlled: u8, word: u16) -> Result<(u8, i8), u8> {
+    if controlled > 1 {
+        return Err(9);
+    }
+    let column = usize::from(column - 1) % 5;
+    let row = if controlled == 1 { 1 } else { row };
+    let class = CLASSES[usize::from(row - 1) % 7][column];
+    if class == 0 {
+        return Err(10);
+    }
+    let credit = |which: usize| CREDITS[which][usize::from(word >> (12 - 4 * which)) & 15];
+    let (m1, m2) = (credit(0) + credit(1) + credit(2), credit(3));
+    if (m1 | m2) >= 64 {
+        return Err(11);
+    }
+    let last = class.saturating_sub(m1).max(CLASSES[0][column]) as i8 - m2 as i8;
+    if last > 7 {
+        return Err(12);
+    }
+    Ok((class, last))
+}
+
+/// Whether all bytes are digits: 0 to 9 are 10 bytes from 48 on, a to f six from 97 on.
+#[inline(always)]
+fn are_digits(bytes: &[u8]) -> bool {
+    let mut wrong = 0;
+    for &byte in bytes {
+        wrong |= byte.wrapping_sub(b'0').saturating_sub(9).min(byte.wrapping_sub(b'a').saturating_sub(5));
+    }
+    wrong == 0
+}
+
+#[inline(always)]
+fn is_line(line: &[u8], digits: usize) -> bool {
+    are_digits(&line[..digits]) & (line[digits] == b'\n')
+}
+
+/// The number of eight digits in one word, first digit highest.
+#[inline(always)]
+fn eight_digits(digits: &[u8]) -> u32 {
+    let x = u64::from_be_bytes(digits[..8].try_into().expect("eight digits"));
+    let values = (x & 0x0f0f_0f0f_0f0f_0f0f) + 9 * ((x >> 6) & 0x0101_0101_0101_0101);
+    let pairs = (values | (values >> 4)) & 0x00ff_00ff_00ff_00ff;
+    let fours = (pairs | (pairs >> 8)) & 0x0000_ffff_0000_ffff;
+    (fours | (fours >> 16)) as u32
+}
+
+/// The counts of a line, through lanes of two digits: each pair to its byte, then four bytes to a count.
+#[inline(always)]
+fn fill_row(line: &[u8; 512], row: &mut [u32; 64]) {
+    let mut pairs = [0u16; 256];
+    for (i, pair) in pairs.iter_mut().enumerate() {
+        *pair = u16::from_le_bytes([line[2 * i], line[2 * i + 1]]);
+    }
+    let mut bytes = [0u8; 256];
+    for (byte, &pair) in bytes.iter_mut().zip(&pairs) {
+        let values = (pair & 0x0f0f) + 9 * ((pair >> 6) & 0x0101);
+        *byte = (((values << 4) | (values >> 8)) & 0xff) as u8;
+    }
+    for (c, count) in row.iter_mut().enumerate() {
+        *count = u32::from_be_bytes(bytes[4 * c..4 * c + 4].try_into().expect("four bytes"));
+    }
+}
+
+fn refused_reading(refusal: u8) -> Reading {
+    Reading { refusal, ..Default::default() }
+}
+
+#[inline(never)]
+pub fn read_case(text: &[u8], counts: &mut [u32], marks: &mut [u64]) -> Reading {
+    let Ok(text) = <&[u8; 33_959]>::try_from(text) else {
+        return refused_reading(13);
+    };
+    let (Ok(counts), Ok(marks)) = (<&mut [u32; 4096]>::try_from(counts), <&mut [u64; 64]>::try_from(marks)) else {
+        return refused_reading(5);
+    };
+    let mut good = is_line(&text[..39], 38);
+    for k in 0..64 {
+        good &= is_line(&text[39 + 17 * k..][..17], 16);
+    }
+    for k in 0..64 {
+        good &= is_line(&text[1127 + 513 * k..][..513], 512);
+    }
+    if !good {
+        return refused_reading(14);
+    }
+    for (k, mark) in marks.iter_mut().enumerate() {
+        let line = &text[39 + 17 * k..][..16];
+        *mark = u64::from(eight_digits(line)) << 32 | u64::from(eight_digits(&line[8..]));
+    }
+    for (k, row) in counts.chunks_exact_mut(64).enumerate() {
+        let line: &[u8; 512] = text[1127 + 513 * k..][..512].try_into().expect("512 digits");
+        fill_row(line, row.try_into().expect("chunks of 64"));
+    }
+    let last = eight_digits(&text[30..]);
+    let fields = CaseHead {
+        dimension: eight_digits(text),
+        mass: eight_digits(&text[8..]),
+        speed: eight_digits(&text[16..]),
+        cell_area: eight_digits(&text[24..]),
+        controlled: (last >> 16) as u8,
+        word: last as u16,
+    };
+    Reading { refusal: 0, fields }
+}
+
+#[inline(always)]
+fn write_digits(part: &mut [u8], number: u64) {
+    let width = part.len();
+    for (i, byte) in part.iter_mut().enumerate() {
+        *byte = b"0123456789abcdef"[(number >> (4 * (width - 1 - i))) as usize & 15];
+    }
+}
+
+fn write_refusal(frame: &mut [u8], refusal: u8) -> u8 {
+    write_digits(&mut frame[..2], u64::from(refusal));
+    frame[2] = b'\n';
+    refusal
+}
+
+fn write_frame(frame: &mut [u8; 41], f: &FrameFields) {
+    write_digits(&mut frame[0..2], 0);
+    write_digits(&mut frame[2..10], f.low);
+    write_digits(&mut frame[10..18], f.high);
+    write_digits(&mut frame[18..20], u64::from(f.column));
+    write_digits(&mut frame[20..22], u64::from(f.flag));
+    write_digits(&mut frame[22..24], u64::from(f.row));
+    write_digits(&mut frame[24..28], u64::from(f.place));
+    write_digits(&mut frame[28..36], f.people);
+    write_digits(&mut frame[36..38], u64::from(f.intrinsic));
+    write_digits(&mut frame[38..40], f.final_class as u64);
+    frame[40] = b'\n';
+}
+
+#[inline(never)]
+pub fn case(text: &[u8], counts: &mut [u32], marks: &mut [u64], frame: &mut [u8]) -> u8 {
+    let Some(frame) = frame.first_chunk_mut::<41>() else {
+        return 15;
+    };
+    let reading = read_case(text, counts, marks);
+    if reading.refusal != 0 {
+        return write_refusal(frame, reading.refusal);
+    }
+    let head = reading.fields;
+    let answer = sheet(head.dimension, head.mass, head.speed);
+    if answer.refusal != 0 {
+        return write_refusal(frame, answer.refusal);
+    }
+    let footprint = footprint(counts, marks, head.cell_area);
+    if footprint.refusal != 0 {
+        return write_refusal(frame, footprint.refusal);
+    }
+    let sheet = answer.sheet;
+    let (intrinsic, final_class) = match classes(sheet.column, footprint.row, head.controlled, head.word) {
+        Ok(both) => both,
+        Err(refusal) => return write_refusal(frame, refusal),
+    };
+    let fields = FrameFields {
+        low: sheet.area.low,
+        high: sheet.area.high,
+        column: sheet.column,
+        flag: sheet.flag,
+        row: if head.controlled == 1 { 1 } else { footprint.row },
+        place: footprint.place,
+        people: footprint.people,
+        intrinsic,
+        final_class,
+    };
+    write_frame(frame, &fields);
+    0
+}

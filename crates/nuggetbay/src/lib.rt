@@ -1,0 +1,114 @@
+// The boundary: every operation that a console written in C or Rust may call. Each one answers what the operation that it passes on to answers.
+ghost use mathlib.Core.Path.{_≡_};
+ghost use lib.ListN.{length};
+ghost use Rattle.sheet.specs.Sheet.{sheetOf};
+ghost use Rattle.footprint.specs.Map.{footprintOf};
+ghost use Rattle.risk_class.specs.ClassTable.{intrinsicClassOf};
+ghost use Rattle.risk_class.specs.Mitigation.{finalClassOf};
+ghost use Rattle.assessment.specs.Assessment.{assessmentOf};
+ghost use Rattle.case_text.specs.Text.{ReadingPromise};
+ghost use Rattle.frame.specs.Frame.{writingRefusal, framed};
+ghost use Rattle.ground_risk_case.specs.Case.{CasePromise};
+use assessment::Assessment;
+use assessment::assess;
+use case_text::Reading;
+use case_text::read_case;
+use footprint::Footprint;
+use footprint::footprint_on_map;
+use frame::FrameFields;
+use frame::write_frame;
+use ground_risk_case::print_case;
+use risk_class::FinalClass;
+use risk_class::IntrinsicClass;
+use risk_class::final_class;
+use risk_class::intrinsic_class;
+use sheet::SheetAnswer;
+use sheet::sheet_of;
+
+// The aircraft's sheet.
+#[no_mangle]
+pub extern "C" fn nb_sheet(dimension: u32, mass: u32, speed: u32) -> SheetAnswer
+    ensures { λ r. ⌜ r ≡ sheetOf dimension mass speed ⌝ }
+{
+    sheet_of(dimension, mass, speed)
+}
+
+// The footprint on a lent map.
+#[no_mangle]
+pub extern "C" fn nb_footprint(counts: &[u32], marks: &[u64], cell_area: u32) -> Footprint
+    ensures { λ r. ⌜ r ≡ footprintOf (now (counts .entry)) (now (marks .entry)) «cell_area» ⌝ }
+{
+    footprint_on_map(counts, marks, cell_area)
+}
+
+// The intrinsic class.
+#[no_mangle]
+pub extern "C" fn nb_intrinsic_class(column: u8, row: u8, controlled: u8) -> IntrinsicClass
+    ensures { λ r. ⌜ r ≡ intrinsicClassOf column row controlled ⌝ }
+{
+    intrinsic_class(column, row, controlled)
+}
+
+// The final class.
+#[no_mangle]
+pub extern "C" fn nb_final_class(column: u8, class: u8, word: u16) -> FinalClass
+    ensures { λ r. ⌜ r ≡ finalClassOf column class word ⌝ }
+{
+    final_class(column, class, word)
+}
+
+// Sheet, footprint and both classes over a lent map.
+#[no_mangle]
+pub extern "C" fn nb_assess(
+    dimension: u32,
+    mass: u32,
+    speed: u32,
+    counts: &[u32],
+    marks: &[u64],
+    cell_area: u32,
+    controlled: u8,
+    word: u16,
+) -> Assessment
+    ensures { λ r. ⌜ r ≡ assessmentOf dimension mass speed (now (counts .entry)) (now (marks .entry)) «cell_area» controlled word ⌝ }
+{
+    assess(
+        dimension,
+        mass,
+        speed,
+        counts,
+        marks,
+        cell_area,
+        controlled,
+        word,
+    )
+}
+
+// Reads a case text into the lent buffers.
+#[no_mangle]
+pub extern "C" fn nb_read_case(text: &[u8], counts: &mut [u32], marks: &mut [u64]) -> Reading
+    ensures { λ r. ⌜ ReadingPromise (now (text .entry)) (now (counts .entry)) (now (marks .entry)) r (now (counts .exit)) (now (marks .exit)) ⌝ }
+{
+    read_case(text, counts, marks)
+}
+
+// Writes the frame, or the refusal, at the start of the lent buffer.
+#[no_mangle]
+pub extern "C" fn nb_write_frame(refusal: u8, fields: FrameFields, frame: &mut [u8]) -> u8
+    ensures { λ r. ⌜ r ≡ writingRefusal (length (now (frame .entry))) ⌝ }
+    ensures { λ _. ⌜ now (frame .exit) ≡ framed refusal fields (now (frame .entry)) ⌝ }
+{
+    write_frame(refusal, fields, frame)
+}
+
+// The whole case, from its text to the printed frame.
+#[no_mangle]
+pub extern "C" fn nb_case(
+    text: &[u8],
+    counts: &mut [u32],
+    marks: &mut [u64],
+    frame: &mut [u8],
+) -> u8
+    ensures { λ r. ⌜ CasePromise (now (text .entry)) (now (counts .entry)) (now (marks .entry)) (now (frame .entry)) r (now (counts .exit)) (now (marks .exit)) (now (frame .exit)) ⌝ }
+{
+    print_case(text, counts, marks, frame)
+}
