@@ -62,7 +62,7 @@ pub(crate) fn head_of(text: &[u8]) -> CaseHead
     }
 }
 
-// The digits of a line of the footprint.
+// The number in the footprint line that starts at a place.
 fn mark_at(text: &[u8], at: usize) -> u64
     requires { ⌜ at + 16 ≤ length (now text) ⌝ }
     ensures { λ r. ⌜ r ≡ field (now (text .entry)) at 16 ⌝ }

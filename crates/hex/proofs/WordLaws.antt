@@ -12,6 +12,7 @@ use Rattle.hex.specs.Digits.{digitValue, number, field}
 use Rattle.hex.specs.Words.{lanes, wordAt, bytesOf, numberOfWord, numberOfWords, valuesOf, pairsOf}
 use Rattle.hex.proofs.DigitLaws.{digit-below, number-split, field-number}
 
+-- four numbers, each below n
 abbrev Below : ℕ → ℕ → ℕ → ℕ → ℕ → Type 0
 Below n a b c d = (a < n) × (b < n) × (c < n) × (d < n)
 
@@ -40,6 +41,7 @@ shifted a b c d s = omega arith
 letter : (a b : ℕ) → (a / 64 + 4 * (b % 64)) % 2 ≡ a / 64 % 2
 letter a b = omega arith
 
+-- a byte with this bit set is 64 or more
 less : (a : ℕ) → 7 * (a / 64 % 2) ≤ a
 less a = omega arith
 
@@ -104,14 +106,15 @@ word-steps x p h is =
     let whole : x ≡ lanes (x % 256) (x / 256 % 256) (x / 65536 % 256) (x / 16777216 % 256) = omega arith in
     steps-are (x % 256) (x / 256 % 256) (x / 65536 % 256) (x / 16777216 % 256) (omega arith, omega arith, omega arith, omega arith) p (is ∙ ap (λ (y : ℕ). pairsOf (valuesOf y)) whole)
 
+-- and a word has the bytes that it is made of
 bytes-of : (a b c d : ℕ) → Below 256 a b c d → bytesOf (lanes a b c d) ≡ a ∷ b ∷ c ∷ d ∷ []
 bytes-of a b c d s =
-    let first : lanes a b c d ≡ (b + c * 256 + d * 65536) * 256 + a = omega arith in
+    let first : lanes a b c d % 256 ≡ a = omega arith in
     let second : lanes a b c d / 256 ≡ b + c * 256 + d * 65536 = omega arith in
     let third : lanes a b c d / 65536 ≡ c + d * 256 = omega arith in
     let fourth : lanes a b c d / 16777216 ≡ d = omega arith in
-    let bytes : ((lanes a b c d) % 256 ≡ a) × ((b + c * 256 + d * 65536) % 256 ≡ b) × ((c + d * 256) % 256 ≡ c) × (d % 256 ≡ d) = (omega arith, omega arith, omega arith, omega arith) in
-    rw (second, third, fourth, bytes .0, bytes .1, bytes .2, bytes .3) refl
+    let bytes : ((b + c * 256 + d * 65536) % 256 ≡ b) × ((c + d * 256) % 256 ≡ c) × (d % 256 ≡ d) = (omega arith, omega arith, omega arith) in
+    rw (first, second, third, fourth, bytes .0, bytes .1, bytes .2) refl
 
 -- the word of four digits gives their number
 pub word-number : (s : List ℕ) (a : ℕ) → ((i : ℕ) → getD s i 0 < 256) → numberOfWord (wordAt s a) ≡ number 4 (drop a s)
