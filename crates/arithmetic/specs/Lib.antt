@@ -4,3 +4,4 @@ pub mod Fraction
 pub mod SumsAndMaxima
 pub mod Lists
 pub mod Each
+pub mod MapSize

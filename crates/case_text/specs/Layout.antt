@@ -2,6 +2,7 @@
 -- "Line 1 has 38 digits: dimension 8, mass 8, speed 8, cell area 8, controlled mark 2, mitigation word 4. Then 64 lines of
 -- 16 digits, the footprint, and 64 lines of 512 digits, eight a count. The whole is 33,959 bytes."
 use Prim.Native.Nat.{ℕ, _+_, _*_}
+use Rattle.arithmetic.specs.MapSize.{mapRows, mapColumns}
 
 abbrev pub dimensionWidth : ℕ
 dimensionWidth = 8
@@ -45,10 +46,10 @@ headDigits = wordStart + wordWidth
 
 -- "64 rows of 64 cells": the counts and the marks that are lent
 abbrev pub rows : ℕ
-rows = 64
+rows = mapRows
 
 abbrev pub columns : ℕ
-columns = 64
+columns = mapColumns
 
 abbrev pub cells : ℕ
 cells = rows * columns

@@ -7,16 +7,8 @@ use lib.ListN.{length, getD}
 use Rattle.arithmetic.specs.Tests.{outside, anyBelow}
 use Rattle.arithmetic.specs.SumsAndMaxima.{sumBelow, maxBelow, firstMaxBelow}
 use Rattle.footprint.specs.declared.Footprint.{Footprint}
-
 -- "A map is 64 rows of 64 cells", "lent as 4,096 32-bit numbers, row after row"
-abbrev pub mapRows : ℕ
-mapRows = 64
-
-abbrev pub rowCells : ℕ
-rowCells = 64
-
-abbrev pub mapCells : ℕ
-mapCells = 4096
+pub use Rattle.arithmetic.specs.MapSize.{mapRows, mapColumns as rowCells, mapCells}
 
 -- "one head count (0 to 1,000,000) a cell"
 abbrev pub largestCount : ℕ

@@ -14,11 +14,11 @@ ghost use Rattle.footprint.specs.Map.{mapCells, mapRows, wrongCount, ref
 ghost use Rattle.footprint.specs.Walk.{mapWalk};
 
 // A map is MAP_ROWS rows of ROW_CELLS cells.
-const MAP_ROWS: usize = 64;
+const MAP_ROWS: usize = arithmetic::MAP_ROWS;
 
-const ROW_CELLS: usize = 64;
+const ROW_CELLS: usize = arithmetic::MAP_COLUMNS;
 
-const MAP_CELLS: usize = 4096;
+const MAP_CELLS: usize = MAP_ROWS * ROW_CELLS;
 
 // The range of a head count ends here; it starts at 0.
 const LARGEST_COUNT: u32 = 1000000;
