@@ -1,7 +1,7 @@
 -- Division rounded down and up, by any divisor above zero: the bracket that each keeps, and how each goes with its operands.
 use mathlib.Core.Path.{_≡_}
-use Prim.Native.Nat.{ℕ, zero, suc, _+_, _-_, _*_, _/_, _≤_, _<_}
-use native.Mathlib.Nat.{div-mul-le-self, lt-div-mul-add, le-div-iff-mul-le, mul-le-mul-left, le-trans, div-lt-iff-lt-mul, suc-le-suc-iff, mul-le-mul-right, le-of-mul-le-mul-right, lt-of-mul-lt-mul-right, le-antisymm, div-zero, div-eq-of-lt}
+use Prim.Native.Nat.{ℕ, suc, _+_, _-_, _*_, _/_, _≤_, _<_}
+use native.Mathlib.Nat.{div-mul-le-self, lt-div-mul-add, le-div-iff-mul-le, mul-le-mul-left, le-trans, div-lt-iff-lt-mul, suc-le-suc-iff, mul-le-mul-right, le-of-mul-le-mul-right, lt-of-mul-lt-mul-right, le-antisymm, mul-pos}
 use native.Mathlib.Omega.{arith}
 use Rattle.arithmetic.specs.Rounding.{divUp}
 
@@ -22,16 +22,6 @@ le-down x a b h k = le-div-iff-mul-le h .1 k
 pub up-le : (x a b : ℕ) → 0 < b → a ≤ x * b → divUp a b ≤ x
 unfolding divUp
 up-le x a b h k = suc-le-suc-iff .0 (div-lt-iff-lt-mul {x = a + (b - 1)} {y = suc x} h .1 (omega arith))
-
--- nothing over anything, and anything over nothing
-pub up-by-none : (a : ℕ) → divUp a 0 ≡ 0
-unfolding divUp
-up-by-none a = div-zero _
-
-pub up-of-none : (b : ℕ) → divUp 0 b ≡ 0
-unfolding divUp
-up-of-none zero = div-zero (0 + (0 - 1))
-up-of-none (suc b) = div-eq-of-lt {n = 0 + (suc b - 1)} {m = suc b} (omega arith)
 
 -- one more, rounded up, is one more than the quotient
 pub up-next : (a b : ℕ) → 0 < b → divUp (a + 1) b ≡ a / b + 1
@@ -57,3 +47,11 @@ up-anti a b d h k =
 pub rate : (x y p q c d : ℕ) → 0 < p → x * p ≤ y * q → q * d ≤ p * c → x * d ≤ y * c
 rate x y p q c d pos h k =
     le-of-mul-le-mul-right {k = p} (omega (arith, mul-le-mul-right d h, mul-le-mul-left y k)) pos
+
+-- a fraction's two numbers times the same number; rounded down it is the library's mul-div-mul-left
+pub scaled-up : (k n d : ℕ) → 0 < k → 0 < d → divUp (k * n) (k * d) ≡ divUp n d
+scaled-up k n d h l =
+    let above : 0 < k * d = mul-pos h l
+    in le-antisymm
+    (up-le (divUp n d) (k * n) (k * d) above (omega (arith, mul-le-mul-left k (up-high n d l))))
+    (up-le (divUp (k * n) (k * d)) n d l (le-of-mul-le-mul-right {k = k} (omega (arith, up-high (k * n) (k * d) above)) h))

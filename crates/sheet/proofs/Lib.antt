@@ -1,6 +1,7 @@
 pub mod FirstInTable
 pub mod LineBounds
 pub mod CountedColumn
+pub mod AreaTenths
 pub mod WaysOut
 pub mod Refusals
 pub mod Growth

@@ -17,7 +17,7 @@ run-max v h = omega (arith, mul-le-mul h h)
 pub slide-max : (m v : ℕ) → v ≤ speedMax → AtMost (slideOf (runOf v) (savingOf m)) slideMax
 slide-max m v h = omega (arith, run-max v h)
 
-total-at-max : (a g s : ℕ) → a ≤ aMax → g ≤ glideMax → s ≤ slideMax → totalAt a g s ≤ totalMax
+pub total-at-max : (a g s : ℕ) → a ≤ aMax → g ≤ glideMax → s ≤ slideMax → totalAt a g s ≤ totalMax
 total-at-max a g s ha hg hs = omega (arith, mul-le-mul ha (add-le-add hg hs), mul-le-mul ha ha)
 
 pub total-max : (w m v : ℕ) → w ≤ dimensionMax → v ≤ speedMax →

@@ -51,10 +51,13 @@ refusedSheet n = record { refusal = n; sheet = zeroSheet }
 abbrev pub givenSheet : Sheet → SheetAnswer
 givenSheet s = record { refusal = 0; sheet = s }
 
+-- "4 high area above 650,000,000"
+abbrev pub areaTested : Sheet → SheetAnswer
+areaTested s = cond (ltb lastLimit (s .area .high)) (refusedSheet 4) (givenSheet s)
+
 -- "Sheet refusals: 1 dimension outside its range; 2 mass; 3 speed; 4 high area above 650,000,000. Tested in that order"
 unfoldable pub sheetOf : ℕ → ℕ → ℕ → SheetAnswer
 sheetOf w m v =
     cond (outside dimensionMin dimensionMax w) (refusedSheet 1)
     (cond (outside massMin massMax m) (refusedSheet 2)
-    (cond (ltb speedMax v) (refusedSheet 3)
-    (cond (ltb lastLimit (linesOf w m v .area .high)) (refusedSheet 4) (givenSheet (linesOf w m v)))))
+    (cond (ltb speedMax v) (refusedSheet 3) (areaTested (linesOf w m v))))

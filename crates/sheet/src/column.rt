@@ -1,36 +1,36 @@
 // The column of the class table and the flag, from the table of area limits.
 ghost use mathlib.Core.Path.{_≡_};
 ghost use Prim.Native.Nat.{_≤_};
-ghost use Rattle.sheet.specs.Column.{columnOf, flagOf};
+ghost use Rattle.sheet.specs.Column.{lastLimit, columnOf, flagOf};
+use crate::Bracket;
 
 // The area limits of the five columns, in square centimetres.
 const LIMITS: [u64; 5] = [65_000, 650_000, 6_500_000, 65_000_000, 650_000_000];
 
 pub(crate) const LAST_LIMIT: u64 = LIMITS[4];
 
-// The first column whose limit is at least the high area; 0 where there is none. The limits grow, so that those below the high area
-// are counted: no branch depends on the area.
-pub(crate) fn column(high: u64) -> u8
-    ensures { λ r. ⌜ r ≡ columnOf high ⌝ }
-{
-    let mut below: u8 = 0;
-    let mut k: usize = 0;
-    while k < 5 {
-        below += (LIMITS[k] < high) as u8;
-        k += 1;
-    }
-    if below < 5 { below + 1 } else { 0 }
+pub(crate) struct ColumnAndFlag {
+    pub column: u8,
+    pub flag: u8,
 }
 
-// 1 where the low area is at most the limit before the column, so that the exact column may be that one.
-pub(crate) fn flag(low: u64, column: u8) -> u8
-    requires { ⌜ column ≤ 5 ⌝ }
-    ensures { λ r. ⌜ r ≡ flagOf low column ⌝ }
+// The first column whose limit is at least the high area, and whether the low area is at most the limit before it. The limits
+// grow, so that the last one below the high area is the limit before its column.
+pub(crate) fn column_and_flag(area: Bracket) -> ColumnAndFlag
+    requires { ⌜ area .high ≤ lastLimit ⌝ }
+    ensures { λ r. ⌜ (r .column ≡ columnOf (area .high)) × (r .flag ≡ flagOf (area .low) (columnOf (area .high))) ⌝ }
 {
-    if 1 < column {
-        if low <= LIMITS[(column - 2) as usize] {
-            return 1;
+    let mut column: u8 = 1;
+    // the limit before the column, and one; 0 in the first column, where no low area is flagged
+    let mut flagged_below: u64 = 0;
+    let mut k: usize = 0;
+    while k < 4 {
+        if LIMITS[k] < area.high {
+            column += 1;
+            flagged_below = LIMITS[k] + 1;
         }
+        k += 1;
     }
-    0
+    let flag = (area.low < flagged_below) as u8;
+    ColumnAndFlag { column, flag }
 }

@@ -2,13 +2,12 @@
 ghost use mathlib.Core.Path.{_≡_};
 ghost use Prim.Native.Nat.{_≤_, _<_};
 ghost use Rattle.sheet.specs.Ranges.{dimensionMax, massMax, speedMax};
-ghost use Rattle.sheet.specs.Sheet.{linesOf, zeroSheet, refusedSheet, sheetOf};
+ghost use Rattle.sheet.specs.Sheet.{linesOf, zeroSheet, refusedSheet, areaTested, sheetOf};
 
 mod column;
 mod lines;
 
-use crate::column::column;
-use crate::column::flag;
+use crate::column::column_and_flag;
 use crate::lines::area;
 use crate::lines::glide;
 use crate::lines::run;
@@ -76,10 +75,17 @@ impl Sheet {
     }
 }
 
-// The sheet of an aircraft within its ranges.
-fn sheet_in_range(dimension: u64, mass: u64, speed: u64) -> Sheet
+fn refused_with(refusal: u8) -> SheetAnswer
+    ensures { λ r. ⌜ r ≡ refusedSheet refusal ⌝ }
+{
+    let sheet = Sheet::refused();
+    SheetAnswer { refusal, sheet }
+}
+
+// The sheet of an aircraft within its ranges, or refusal 4.
+fn sheet_in_range(dimension: u64, mass: u64, speed: u64) -> SheetAnswer
     requires { ⌜ (dimension ≤ dimensionMax) × (0 < mass) × (mass ≤ massMax) × (speed ≤ speedMax) ⌝ }
-    ensures { λ r. ⌜ r ≡ linesOf dimension mass speed ⌝ }
+    ensures { λ r. ⌜ r ≡ areaTested (linesOf dimension mass speed) ⌝ }
 {
     let glide = glide();
     let run = run(speed);
@@ -87,25 +93,21 @@ fn sheet_in_range(dimension: u64, mass: u64, speed: u64) -> Sheet
     let slide = slide(run, saving);
     let total = total(dimension + 600, glide, slide);
     let area = area(dimension, glide, total);
-    let column = column(area.high);
-    let flag = flag(area.low, column);
-    Sheet {
+    if column::LAST_LIMIT < area.high {
+        return refused_with(4);
+    }
+    let place = column_and_flag(area);
+    let sheet = Sheet {
         glide,
         run,
         saving,
         slide,
         total,
         area,
-        column,
-        flag,
-    }
-}
-
-fn refused_with(refusal: u8) -> SheetAnswer
-    ensures { λ r. ⌜ r ≡ refusedSheet refusal ⌝ }
-{
-    let sheet = Sheet::refused();
-    SheetAnswer { refusal, sheet }
+        column: place.column,
+        flag: place.flag,
+    };
+    SheetAnswer { refusal: 0, sheet }
 }
 
 // The sheet of an aircraft: dimension in mm, mass in g, speed in cm/s. Refusals: 1 dimension, 2 mass, 3 speed, 4 area.
@@ -121,9 +123,5 @@ pub fn sheet_of(dimension: u32, mass: u32, speed: u32) -> SheetAnswer
     if Sheet::SPEED_MAX < speed {
         return refused_with(3);
     }
-    let sheet = sheet_in_range(dimension as u64, mass as u64, speed as u64);
-    if column::LAST_LIMIT < sheet.area.high {
-        return refused_with(4);
-    }
-    SheetAnswer { refusal: 0, sheet }
+    sheet_in_range(dimension as u64, mass as u64, speed as u64)
 }

@@ -1,13 +1,14 @@
 // Lines 1 to 6 of the sheet. `a` is document 01's a, the dimension and 600 mm.
 ghost use mathlib.Core.Path.{_≡_};
-ghost use Prim.Native.Nat.{_+_, _/_, _≤_, _<_};
+ghost use mathlib.Core.Bool.{cond};
+ghost use Prim.Native.Nat.{_+_, _/_, _^_, _≤_, _<_};
+ghost use lib.Dec.{ltb};
 ghost use Rattle.arithmetic.specs.Rounding.{divUp};
 ghost use Rattle.sheet.specs.Ranges.{dimensionMax, speedMax};
 ghost use Rattle.sheet.specs.Bounds.{aMax, glideMax, slideMax, totalMax, AtMost};
-ghost use Rattle.sheet.specs.Lines.{bracket, glideOf, runOf, savingOf, slideOf, totalAt, totalOf, glideOnlyAt, formulaOf, areaOf};
+ghost use Rattle.sheet.specs.Lines.{bracket, glideOf, runOf, savingOf, slideOf, totalAt, totalOf, formulaOf, areaOf};
 use crate::Bracket;
 use arithmetic::difference_or_zero;
-use arithmetic::div_up;
 
 // Above the first dimension the whole area formula is taken, above the second six tenths of it; in mm.
 const WHOLE_ABOVE: u64 = 8_000;
@@ -23,13 +24,26 @@ pub(crate) fn glide() -> Bracket
     }
 }
 
+// A numerator's two ends over one denominator, the low one rounded down and the high one up.
+fn rounded(low: u64, high: u64, denominator: u64) -> Bracket
+    requires { ⌜ (0 < denominator) × (high + denominator < 2 ^ 64) ⌝ }
+    ensures { λ r. ⌜ r ≡ bracket (low / denominator) (divUp high denominator) ⌝ }
+{
+    let down = low / denominator;
+    let up = (high + (denominator - 1)) / denominator;
+    Bracket {
+        low: down,
+        high: up,
+    }
+}
+
 pub(crate) fn run(speed: u64) -> Bracket
     requires { ⌜ speed ≤ speedMax ⌝ }
     ensures { λ r. ⌜ r ≡ runOf speed ⌝ }
 {
-    let low = speed * speed * 1_926_617_433 / 1_000_000_000;
-    let high = div_up(speed * speed * 1_926_617_434, 1_000_000_000);
-    Bracket { low, high }
+    let low = speed * speed * 1_926_617_433;
+    let high = speed * speed * 1_926_617_434;
+    rounded(low, high, 1_000_000_000)
 }
 
 pub(crate) fn saving(mass: u64) -> Bracket
@@ -67,39 +81,35 @@ pub(crate) fn total(a: u64, glide: Bracket, slide: Bracket) -> Bracket
     Bracket { low, high }
 }
 
-// The numerator of the formula without slide, at one end of the lines.
-fn glide_only_at(a: u64, glide: u64) -> u64
-    requires { ⌜ (a ≤ aMax) × (glide ≤ glideMax) ⌝ }
-    ensures { λ r. ⌜ r ≡ glideOnlyAt a glide ⌝ }
+// Line 6 is so many tenths of a total over a million: ten where the whole formula is taken, and five, a half, without slide.
+fn area_tenths(dimension: u64) -> u64
+    ensures { λ r. ⌜ r ≡ cond (ltb 8000 dimension) 10 (cond (ltb 1000 dimension) 6 5) ⌝ }
+    ensures { λ r. ⌜ r ≤ 10 ⌝ }
 {
-    a * (2 * glide + 785 * a)
-}
-
-// A numerator's two ends over one denominator, the low one rounded down and the high one up.
-fn rounded(low: u64, high: u64, denominator: u64) -> Bracket
-    requires { ⌜ 0 < denominator ⌝ }
-    ensures { λ r. ⌜ r ≡ bracket (low / denominator) (divUp high denominator) ⌝ }
-{
-    let down = low / denominator;
-    let up = div_up(high, denominator);
-    Bracket {
-        low: down,
-        high: up,
+    if WHOLE_ABOVE < dimension {
+        return 10;
     }
+    if SIX_TENTHS_ABOVE < dimension { 6 } else { 5 }
 }
 
+// The total of which these tenths are. With the glide in the slide's place it is the numerator without slide, 2 × a × glide + 785 × a × a.
+fn area_total(dimension: u64, glide: Bracket, line: Bracket) -> Bracket
+    requires { ⌜ (dimension ≤ dimensionMax) × AtMost glide glideMax × AtMost line totalMax ⌝ }
+    ensures { λ r. ⌜ r ≡ cond (ltb 1000 dimension) line (totalOf (dimension + 600) glide glide) ⌝ }
+    ensures { λ r. ⌜ AtMost r totalMax ⌝ }
+{
+    if SIX_TENTHS_ABOVE < dimension {
+        return line;
+    }
+    total(dimension + 600, glide, glide)
+}
+
+// The three formulas as one, so that they share two divisions and the dimension chooses numbers, not code.
 pub(crate) fn area(dimension: u64, glide: Bracket, total: Bracket) -> Bracket
     requires { ⌜ (dimension ≤ dimensionMax) × AtMost glide glideMax × AtMost total totalMax ⌝ }
     ensures { λ r. ⌜ r ≡ areaOf (formulaOf dimension) (dimension + 600) glide total ⌝ }
 {
-    let a = dimension + 600;
-    if WHOLE_ABOVE < dimension {
-        return rounded(total.low, total.high, 100_000);
-    }
-    if SIX_TENTHS_ABOVE < dimension {
-        return rounded(3 * total.low, 3 * total.high, 500_000);
-    }
-    let low = glide_only_at(a, glide.low);
-    let high = glide_only_at(a, glide.high);
-    rounded(low, high, 200_000)
+    let tenths = area_tenths(dimension);
+    let whole = area_total(dimension, glide, total);
+    rounded(tenths * whole.low, tenths * whole.high, 1_000_000)
 }

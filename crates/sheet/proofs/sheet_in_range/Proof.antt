@@ -1,10 +1,11 @@
--- `sheet_in_range` gives the sheet of an aircraft within its ranges.
-use mathlib.Core.Path.{_≡_}
+-- `sheet_in_range` gives the sheet of an aircraft within its ranges, or refusal 4.
+use mathlib.Core.Path.{_≡_, _∙_}
 use Prim.Native.Nat.{_+_}
 use native.Mathlib.Omega.{arith}
 use Rattle.sheet.specs.Lines.{glideOf, runOf, savingOf, slideOf, totalOf}
 use Rattle.sheet.specs.Sheet.{withLines, linesOf}
-use Rattle.sheet.proofs.LineBounds.{slide-max, total-max, column-max}
+use Rattle.sheet.proofs.LineBounds.{slide-max, total-max}
+use Rattle.sheet.proofs.WaysOut.{area-refused, area-given}
 use borrow.Author.Needs.{needs}
 use Rattle.sheet.proofs.sheet_in_range.Statement.{statement}
 use Rattle.sheet.proofs.sheet_in_range.Tie as tie
@@ -36,15 +37,23 @@ area-requires c κs =
     in let e : c .total .result ≡ totalOf (args .dimension + 600) glideOf (slideOf (runOf (args .speed)) (savingOf (args .mass))) = cc
     in rw (e, c .before .before .before .before .glide .ensures) (omega (arith, total-max (args .dimension) (args .mass) (args .speed) (omega arith) (omega arith)))
 
-column-requires : tie.Need-column-requires
-column-requires c κs = search needs
-
-flag-requires : tie.Need-flag-requires
-flag-requires c κs = rw (c .column .ensures) (column-max _)
+refused-with-requires : tie.Need-refused-with-requires
+refused-with-requires c κs = search needs
 
 returns : tie.Need-returns
 unfolding linesOf withLines
-returns c = cc
+returns c =
+    let args = c .before .before .before .before .before .before .before .before .before .args
+    in c .refused-with .ensures ∙ area-refused (linesOf (args .dimension) (args .mass) (args .speed)) {area = c .before .before .before .area .result} (cc) (c .before .if1 .taken)
+
+column-and-flag-requires : tie.Need-column-and-flag-requires
+column-and-flag-requires c κs = c .if1 .left
+
+returns-2 : tie.Need-returns-2
+unfolding linesOf withLines
+returns-2 c =
+    let args = c .before .before .before .before .before .before .before .before .before .args
+    in area-given {t = linesOf (args .dimension) (args .mass) (args .speed)} (cc) (c .before .if1 .left)
 
 pub sheet-in-range-spec : {M : Type 1} → statement M
 sheet-in-range-spec =
@@ -57,6 +66,7 @@ sheet-in-range-spec =
     add-total
     total-requires
     area-requires
-    column-requires
-    flag-requires
-    returns)
+    refused-with-requires
+    returns
+    column-and-flag-requires
+    returns-2)

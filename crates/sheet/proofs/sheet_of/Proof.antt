@@ -3,7 +3,7 @@ use mathlib.Core.Path.{_∙_}
 use native.Mathlib.Omega.{arith}
 use Rattle.arithmetic.proofs.TestLaws.{inside}
 use Rattle.sheet.specs.Ranges.{dimensionMin, dimensionMax, massMin, massMax}
-use Rattle.sheet.proofs.WaysOut.{refused-1, refused-2, refused-3, refused-4, given}
+use Rattle.sheet.proofs.WaysOut.{refused-1, refused-2, refused-3, in-range}
 use borrow.Author.Needs.{needs}
 use Rattle.sheet.proofs.sheet_of.Statement.{statement}
 use Rattle.sheet.proofs.sheet_of.Tie as tie
@@ -31,14 +31,8 @@ sheet-in-range-requires c κs =
     let args = c .before .before .before .args in
     omega (arith, inside dimensionMin dimensionMax (args .dimension) (c .before .before .if1 .left), inside massMin massMax (args .mass) (c .before .if2 .left))
 
-refused-with-requires-4 : tie.Need-refused-with-requires-4
-refused-with-requires-4 c κs = search needs
-
 returns-4 : tie.Need-returns-4
-returns-4 c = let b = c .before .before .before .before in c .refused-with4 .ensures ∙ refused-4 _ _ _ (b .before .before .if1 .left) (b .before .if2 .left) (b .if3 .left) (c .before .before .before .sheet-in-range .ensures) (c .before .if4 .taken)
-
-returns-5 : tie.Need-returns-5
-returns-5 c = let b = c .before .before .before in given _ _ _ (b .before .before .if1 .left) (b .before .if2 .left) (b .if3 .left) (c .before .before .sheet-in-range .ensures) (c .if4 .left)
+returns-4 c = let b = c .before in c .sheet-in-range .ensures ∙ in-range _ _ _ (b .before .before .if1 .left) (b .before .if2 .left) (b .if3 .left)
 
 pub sheet-of-spec : {M : Type 1} → statement M
 sheet-of-spec =
@@ -51,6 +45,4 @@ sheet-of-spec =
     refused-with-requires-3
     returns-3
     sheet-in-range-requires
-    refused-with-requires-4
-    returns-4
-    returns-5)
+    returns-4)

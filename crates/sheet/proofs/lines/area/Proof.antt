@@ -1,58 +1,40 @@
 -- `area` gives line 6.
-use Rattle.sheet.specs.Lines.{areaOf}
-use Rattle.sheet.proofs.WaysOut.{takes-whole, takes-six-tenths, takes-glide-only}
+use mathlib.Core.Path.{_∙_}
+use native.Mathlib.Omega.{arith}
+use native.Mathlib.Nat.{mul-le-mul}
+use Rattle.sheet.proofs.AreaTenths.{area-in-tenths}
 use borrow.Author.Needs.{needs}
 use Rattle.sheet.proofs.lines.area.Statement.{statement}
 use Rattle.sheet.proofs.lines.area.Tie as tie
 
-add-a : tie.Need-add-a
-add-a c = search needs
+area-tenths-requires : tie.Need-area-tenths-requires
+area-tenths-requires c κs = search needs
 
-rounded-requires : tie.Need-rounded-requires
-rounded-requires c κs = search needs
-
-returns : tie.Need-returns
-unfolding areaOf
-returns c = simp (takes-whole _ (c .before .if1 .taken)) (cc)
+area-total-requires : tie.Need-area-total-requires
+area-total-requires c κs = search needs
 
 mul-rounded : tie.Need-mul-rounded
-mul-rounded c = search needs
+mul-rounded c = omega (arith, mul-le-mul (c .before .before .area-tenths .ensures .1) (c .before .area-total .ensures .1 .0))
 
 mul-rounded-2 : tie.Need-mul-rounded-2
-mul-rounded-2 c = search needs
+mul-rounded-2 c = omega (arith, mul-le-mul (c .before .before .before .area-tenths .ensures .1) (c .before .before .area-total .ensures .1 .1))
 
-rounded-requires-2 : tie.Need-rounded-requires-2
-rounded-requires-2 c κs = search needs
+rounded-requires : tie.Need-rounded-requires
+rounded-requires c κs = omega (arith, mul-le-mul (c .before .before .before .area-tenths .ensures .1) (c .before .before .area-total .ensures .1 .1))
 
-returns-2 : tie.Need-returns-2
-unfolding areaOf
-returns-2 c = simp (takes-six-tenths _ (c .before .before .before .before .if1 .left) (c .before .before .before .if2 .taken)) (cc)
-
-glide-only-at-requires : tie.Need-glide-only-at-requires
-glide-only-at-requires c κs = search needs
-
-glide-only-at-requires-2 : tie.Need-glide-only-at-requires-2
-glide-only-at-requires-2 c κs = search needs
-
-rounded-requires-3 : tie.Need-rounded-requires-3
-rounded-requires-3 c κs = search needs
-
-returns-3 : tie.Need-returns-3
-unfolding areaOf
-returns-3 c = simp (takes-glide-only _ (c .before .before .before .before .if1 .left) (c .before .before .before .if2 .left)) (cc)
+returns : tie.Need-returns
+returns c =
+    let start = c .before .before .before
+    in let args = start .before .before .args
+    in c .rounded .ensures ∙ rw (start .before .area-tenths .ensures .0, start .area-total .ensures .0) (area-in-tenths (args .dimension) (args .glide) (args .total))
 
 pub area-spec : {M : Type 1} → statement M
 area-spec =
     tie.close
     (tie.spec
-    add-a
-    rounded-requires
-    returns
+    area-tenths-requires
+    area-total-requires
     mul-rounded
     mul-rounded-2
-    rounded-requires-2
-    returns-2
-    glide-only-at-requires
-    glide-only-at-requires-2
-    rounded-requires-3
-    returns-3)
+    rounded-requires
+    returns)
