@@ -25,8 +25,8 @@ IntrinsicClass = struct("IntrinsicClass", ("refusal", U8), ("cls", U8))
 FinalClass = struct("FinalClass", ("refusal", U8), ("cls", I8))
 Assessment = struct("Assessment", ("refusal", U8), ("sheet", Sheet), ("footprint", Footprint), ("row_used", U8), ("intrinsic", U8), ("final", I8))
 CaseHead = struct("CaseHead", ("dimension", U32), ("mass", U32), ("speed", U32), ("cell_area", U32), ("controlled", U8), ("word", U16))
-Reading = struct("Reading", ("refusal", U8), ("fields", CaseHead))
-FrameFields = struct("FrameFields", ("low", U64), ("high", U64), ("column", U8), ("flag", U8), ("row", U8), ("place", U32), ("people", U64),
+Reading = struct("Reading", ("refusal", U8), ("head", CaseHead))
+FrameFields = struct("FrameFields", ("low", U64), ("high", U64), ("column", U8), ("flag", U8), ("row_used", U8), ("place", U32), ("people", U64),
                      ("intrinsic", U8), ("final", I8))
 
 
@@ -82,7 +82,7 @@ class Library:
     def read_case(self, text, counts, marks):
         counts, marks = buffer(U32, counts), buffer(U64, marks)
         answer = self.lib.nb_read_case(text, len(text), counts, len(counts), marks, len(marks))
-        f = answer.fields
+        f = answer.head
         fields = g.Fields(f.dimension, f.mass, f.speed, f.cell_area, f.controlled, f.word)
         return g.Reading(answer.refusal, fields, list(counts), list(marks))
 

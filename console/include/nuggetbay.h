@@ -181,7 +181,7 @@ typedef struct {
 
 typedef struct {
     uint8_t refusal;
-    nb_case_head_t fields; /* all zeros where refused */
+    nb_case_head_t head; /* all zeros where refused */
 } nb_reading_t;
 
 /* Reads a case text (NB_TEXT_LENGTH bytes, only read) into 4,096 counts and 64 footprint rows. Where the reading is
@@ -197,7 +197,7 @@ typedef struct {
     uint64_t high;       /* 8 digits: the high critical area */
     uint8_t column;      /* 2 digits */
     uint8_t flag;        /* 2 digits */
-    uint8_t row;         /* 2 digits: the class table's row that was used */
+    uint8_t row_used;    /* 2 digits: the class table's row that was used */
     uint32_t place;      /* 4 digits */
     uint64_t people;     /* 8 digits */
     uint8_t intrinsic;   /* 2 digits */
@@ -249,7 +249,7 @@ NB_ASSERT(sizeof(nb_case_head_t) == 20, case_head_size);
 NB_ASSERT(offsetof(nb_case_head_t, controlled) == 16, case_head_controlled);
 NB_ASSERT(offsetof(nb_case_head_t, word) == 18, case_head_word);
 NB_ASSERT(sizeof(nb_reading_t) == 24, reading_size);
-NB_ASSERT(offsetof(nb_reading_t, fields) == 4, reading_fields);
+NB_ASSERT(offsetof(nb_reading_t, head) == 4, reading_head);
 NB_ASSERT(sizeof(nb_frame_fields_t) == 40, frame_fields_size);
 NB_ASSERT(offsetof(nb_frame_fields_t, column) == 16, frame_fields_column);
 NB_ASSERT(offsetof(nb_frame_fields_t, place) == 20, frame_fields_place);

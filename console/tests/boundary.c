@@ -210,12 +210,12 @@ static void call_reading(int heap) {
     uint32_t text_len = take_32(), counts_len = take_32(), marks_len = take_32();
     nb_reading_t wanted;
     wanted.refusal = take_8();
-    wanted.fields.dimension = take_32();
-    wanted.fields.mass = take_32();
-    wanted.fields.speed = take_32();
-    wanted.fields.cell_area = take_32();
-    wanted.fields.controlled = take_8();
-    wanted.fields.word = take_16();
+    wanted.head.dimension = take_32();
+    wanted.head.mass = take_32();
+    wanted.head.speed = take_32();
+    wanted.head.cell_area = take_32();
+    wanted.head.controlled = take_8();
+    wanted.head.word = take_16();
     EACH_PLACEMENT(heap) {
         starts("nb_read_case", wanted.refusal);
         const uint8_t *t = lend(&text_arena, text_len, text);
@@ -223,12 +223,12 @@ static void call_reading(int heap) {
         uint64_t *m = lend(&marks_arena, 8 * (size_t)marks_len, NULL);
         nb_reading_t got = nb_read_case(t, text_len, c, counts_len, m, marks_len);
         same("refusal", got.refusal, wanted.refusal);
-        same("dimension", got.fields.dimension, wanted.fields.dimension);
-        same("mass", got.fields.mass, wanted.fields.mass);
-        same("speed", got.fields.speed, wanted.fields.speed);
-        same("cell area", got.fields.cell_area, wanted.fields.cell_area);
-        same("controlled mark", got.fields.controlled, wanted.fields.controlled);
-        same("mitigation word", got.fields.word, wanted.fields.word);
+        same("dimension", got.head.dimension, wanted.head.dimension);
+        same("mass", got.head.mass, wanted.head.mass);
+        same("speed", got.head.speed, wanted.head.speed);
+        same("cell area", got.head.cell_area, wanted.head.cell_area);
+        same("controlled mark", got.head.controlled, wanted.head.controlled);
+        same("mitigation word", got.head.word, wanted.head.word);
         give_back(&text_arena, "the text", text, text_len);
         give_back_buffers(wanted.refusal == 0);
     }
@@ -316,7 +316,7 @@ static void call_frame(int heap) {
     fields.high = take_64();
     fields.column = take_8();
     fields.flag = take_8();
-    fields.row = take_8();
+    fields.row_used = take_8();
     fields.place = take_32();
     fields.people = take_64();
     fields.intrinsic = take_8();

@@ -87,7 +87,7 @@ type Case = fn(&[u8], &mut [u32], &mut [u64], &mut [u8]) -> u8;
 
 fn obvious_reading(text: &[u8], counts: &mut [u32], marks: &mut [u64]) -> Reading {
     match obvious::read_case(text, counts, marks) {
-        Ok(fields) => Reading { refusal: 0, fields },
+        Ok(head) => Reading { refusal: 0, head },
         Err(refusal) => Reading { refusal, ..Default::default() },
     }
 }

@@ -210,7 +210,7 @@ fn working(text: &[u8], counts: &mut [u32], marks: &mut [u64]) -> Result<FrameFi
         high: sheet.area.high,
         column: sheet.column,
         flag: sheet.flag,
-        row: if head.controlled == 1 { 1 } else { footprint.row },
+        row_used: if head.controlled == 1 { 1 } else { footprint.row },
         place: footprint.place,
         people: footprint.people,
         intrinsic,
@@ -228,7 +228,7 @@ pub fn case(text: &[u8], counts: &mut [u32], marks: &mut [u64], mut frame: &mut 
             writeln!(
                 frame,
                 "00{:08x}{:08x}{:02x}{:02x}{:02x}{:04x}{:08x}{:02x}{:02x}",
-                f.low, f.high, f.column, f.flag, f.row, f.place, f.people, f.intrinsic, f.final_class
+                f.low, f.high, f.column, f.flag, f.row_used, f.place, f.people, f.intrinsic, f.final_class
             )
             .expect("the buffer was found long enough");
             0

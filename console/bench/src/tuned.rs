@@ -272,7 +272,7 @@ pub fn read_case(text: &[u8], counts: &mut [u32], marks: &mut [u64]) -> Reading 
         fill_row(line, row.try_into().expect("chunks of 64"));
     }
     let last = eight_digits(&text[30..]);
-    let fields = CaseHead {
+    let head = CaseHead {
         dimension: eight_digits(text),
         mass: eight_digits(&text[8..]),
         speed: eight_digits(&text[16..]),
@@ -280,7 +280,7 @@ pub fn read_case(text: &[u8], counts: &mut [u32], marks: &mut [u64]) -> Reading 
         controlled: (last >> 16) as u8,
         word: last as u16,
     };
-    Reading { refusal: 0, fields }
+    Reading { refusal: 0, head }
 }
 
 #[inline(always)]
@@ -303,7 +303,7 @@ fn write_frame(frame: &mut [u8; 41], f: &FrameFields) {
     write_digits(&mut frame[10..18], f.high);
     write_digits(&mut frame[18..20], u64::from(f.column));
     write_digits(&mut frame[20..22], u64::from(f.flag));
-    write_digits(&mut frame[22..24], u64::from(f.row));
+    write_digits(&mut frame[22..24], u64::from(f.row_used));
     write_digits(&mut frame[24..28], u64::from(f.place));
     write_digits(&mut frame[28..36], f.people);
     write_digits(&mut frame[36..38], u64::from(f.intrinsic));
@@ -320,7 +320,7 @@ pub fn case(text: &[u8], counts: &mut [u32], marks: &mut [u64], frame: &mut [u8]
     if reading.refusal != 0 {
         return write_refusal(frame, reading.refusal);
     }
-    let head = reading.fields;
+    let head = reading.head;
     let answer = sheet(head.dimension, head.mass, head.speed);
     if answer.refusal != 0 {
         return write_refusal(frame, answer.refusal);
@@ -339,7 +339,7 @@ pub fn case(text: &[u8], counts: &mut [u32], marks: &mut [u64], frame: &mut [u8]
         high: sheet.area.high,
         column: sheet.column,
         flag: sheet.flag,
-        row: if head.controlled == 1 { 1 } else { footprint.row },
+        row_used: if head.controlled == 1 { 1 } else { footprint.row },
         place: footprint.place,
         people: footprint.people,
         intrinsic,

@@ -90,7 +90,7 @@ pub struct CaseHead {
 #[derive(Clone, Copy, Debug, Default, PartialEq, Eq)]
 pub struct Reading {
     pub refusal: u8,
-    pub fields: CaseHead,
+    pub head: CaseHead,
 }
 
 /// The fields of a printed frame. Of a number that has more digits than its field, the last digits are printed.
@@ -101,7 +101,7 @@ pub struct FrameFields {
     pub high: u64,
     pub column: u8,
     pub flag: u8,
-    pub row: u8,
+    pub row_used: u8,
     pub place: u32,
     pub people: u64,
     pub intrinsic: u8,

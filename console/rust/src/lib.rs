@@ -99,7 +99,7 @@ pub fn read_case(text: &[u8], counts: &mut [u32], marks: &mut [u64]) -> Result<C
     let answer = unsafe {
         ffi::nb_read_case(text.as_ptr(), text.len(), counts.as_mut_ptr(), counts.len(), marks.as_mut_ptr(), marks.len())
     };
-    unless_refused(answer.refusal, answer.fields)
+    unless_refused(answer.refusal, answer.head)
 }
 
 /// Writes what is printed of an accepted case (41 bytes), or of a refused one (3 bytes), at the start of the buffer; the rest

@@ -155,7 +155,7 @@ fn line_1_is_read_and_frames_are_written() {
         high: 2,
         column: 3,
         flag: 1,
-        row: 4,
+        row_used: 4,
         place: 4_095,
         people: 5,
         intrinsic: 6,

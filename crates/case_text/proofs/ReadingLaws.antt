@@ -100,7 +100,7 @@ refusal-numbers t counts marks =
 
 -- what is answered and left, from the refusal number r
 module _ (text counts marks : List ℕ) (r : ℕ) (is : r ≡ readingRefusal text (length counts) (length marks)) where
-  pub reading-refused : (r ≡ 0 → ⊥) → (h : CaseHead) → h ≡ noHead → ReadingPromise text counts marks (record { refusal = r; fields = h }) counts marks
+  pub reading-refused : (r ≡ 0 → ⊥) → (h : CaseHead) → h ≡ noHead → ReadingPromise text counts marks (record { refusal = r; head = h }) counts marks
   unfolding readingOf leftIn
   reading-refused some h e =
       record {
@@ -113,7 +113,7 @@ module _ (text counts marks : List ℕ) (r : ℕ) (is : r ≡ readingRefusal tex
   none-accepted none = refusal-none text (length counts) (length marks) (sym is ∙ none)
 
   pub reading-accepted : r ≡ 0 → (h : CaseHead) → h ≡ headOf text → (counts-after marks-after : List ℕ) → counts-after ≡ countsOf text → marks-after ≡ marksOf text
-      → ReadingPromise text counts marks (record { refusal = 0; fields = h }) counts-after marks-after
+      → ReadingPromise text counts marks (record { refusal = 0; head = h }) counts-after marks-after
   unfolding readingOf leftIn
   reading-accepted none h e counts-after marks-after p q =
       let zero : readingRefusal text (length counts) (length marks) ≡ 0 = sym is ∙ none in
@@ -128,7 +128,7 @@ refused-reading text counts marks r counts-after marks-after p =
     let some : (r .refusal ≡ 0 → ⊥) → eqb (readingRefusal text (length counts) (length marks)) 0 ≡ false = λ n. ne-eqb _ _ (λ e. n (number ∙ e)) in
     record {
       number = rw number (refusal-numbers text (length counts) (length marks));
-      zeros = λ n. ap (λ (x : Reading). x .fields) (p .answer) ∙ simp (some n);
+      zeros = λ n. ap (λ (x : Reading). x .head) (p .answer) ∙ simp (some n);
       counts-kept = λ n. p .counts-left ∙ simp (some n);
       marks-kept = λ n. p .marks-left ∙ simp (some n);
     }

@@ -120,7 +120,7 @@ text-law =
 -- the law of one reading
 module _ (text counts marks : List ℕ) (r : Reading) (counts-after marks-after : List ℕ) (p : ReadingPromise text counts marks r counts-after marks-after) where
   written-read : (f : CaseFields) → Fits f → text ≡ textOf f → length counts ≡ cells → length marks ≡ rows
-      → (r ≡ record { refusal = 0; fields = f .head }) × (counts-after ≡ f .counts) × (marks-after ≡ f .marks)
+      → (r ≡ record { refusal = 0; head = f .head }) × (counts-after ≡ f .counts) × (marks-after ≡ f .marks)
   unfolding readingOf leftIn
   written-read f fits is lc lm =
       let none : readingRefusal text (length counts) (length marks) ≡ 0 = accepted-none text (length counts) (length marks) (record { text-long = ap length is ∙ text-long f; counts-long = lc; marks-long = lm; text = ap isText is ∙ text-accepted f }) in
@@ -130,12 +130,12 @@ module _ (text counts marks : List ℕ) (r : Reading) (counts-after marks-after 
         p .marks-left ∙ rw none (ap marksOf is ∙ marks-read f fits),
       )
 
-  read-written : r .refusal ≡ 0 → textOf (record { head = r .fields; marks = marks-after; counts = counts-after }) ≡ text
+  read-written : r .refusal ≡ 0 → textOf (record { head = r .head; marks = marks-after; counts = counts-after }) ≡ text
   unfolding readingOf leftIn
   read-written e =
       let none : readingRefusal text (length counts) (length marks) ≡ 0 = sym (ap (λ (x : Reading). x .refusal) (p .answer)) ∙ e in
       let a = refusal-none text (length counts) (length marks) none in
-      let h : r .fields ≡ headOf text = ap (λ (x : Reading). x .fields) (p .answer) ∙ rw none in
+      let h : r .head ≡ headOf text = ap (λ (x : Reading). x .head) (p .answer) ∙ rw none in
       let c : counts-after ≡ countsOf text = p .counts-left ∙ rw none in
       let m : marks-after ≡ marksOf text = p .marks-left ∙ rw none in
       rw (h, c, m) (text-back text (a .text-long) (a .text))

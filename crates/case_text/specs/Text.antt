@@ -65,7 +65,7 @@ noHead = record { dimension = 0; mass = 0; speed = 0; «cell_area» = 0; control
 -- the answer: the refusal number, and line 1
 unfoldable pub readingOf : List ℕ → ℕ → ℕ → Reading
 readingOf t counts marks =
-    record { refusal = readingRefusal t counts marks; fields = cond (eqb (readingRefusal t counts marks) 0) (headOf t) noHead }
+    record { refusal = readingRefusal t counts marks; head = cond (eqb (readingRefusal t counts marks) 0) (headOf t) noHead }
 
 -- what a lent buffer holds afterwards: what was read, or "a refused reading changes neither buffer"
 unfoldable pub leftIn : ℕ → List ℕ → List ℕ → List ℕ
@@ -80,6 +80,6 @@ pub record ReadingPromise (text counts marks : List ℕ) (r : Reading) (counts-a
 -- what follows of a refused reading: one of three numbers, nothing but zeros, and both buffers as before
 pub record RefusedReading (counts marks : List ℕ) (r : Reading) (counts-after marks-after : List ℕ) : Type 0 where
   pub number : (r .refusal ≡ 0) ⊎ ((r .refusal ≡ 13) ⊎ ((r .refusal ≡ 5) ⊎ (r .refusal ≡ 14)))
-  pub zeros : (r .refusal ≡ 0 → ⊥) → r .fields ≡ noHead
+  pub zeros : (r .refusal ≡ 0 → ⊥) → r .head ≡ noHead
   pub counts-kept : (r .refusal ≡ 0 → ⊥) → counts-after ≡ counts
   pub marks-kept : (r .refusal ≡ 0 → ⊥) → marks-after ≡ marks

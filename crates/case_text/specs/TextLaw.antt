@@ -76,6 +76,6 @@ pub record TextLaw : Type 0 where
 pub record ReadingLaw (text counts marks : List ℕ) (r : Reading) (counts-after marks-after : List ℕ) : Type 0 where
   -- the text of fields that fit is accepted, and these fields are answered and stored
   pub written-read : (f : CaseFields) → Fits f → text ≡ textOf f → length counts ≡ cells → length marks ≡ rows
-      → (r ≡ record { refusal = 0; fields = f .head }) × (counts-after ≡ f .counts) × (marks-after ≡ f .marks)
+      → (r ≡ record { refusal = 0; head = f .head }) × (counts-after ≡ f .counts) × (marks-after ≡ f .marks)
   -- a text that is not refused is the text of what was answered and stored
-  pub read-written : r .refusal ≡ 0 → textOf (record { head = r .fields; marks = marks-after; counts = counts-after }) ≡ text
+  pub read-written : r .refusal ≡ 0 → textOf (record { head = r .head; marks = marks-after; counts = counts-after }) ≡ text

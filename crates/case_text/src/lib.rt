@@ -32,7 +32,7 @@ pub struct CaseHead {
 #[repr(C)]
 pub struct Reading {
     pub refusal: u8,
-    pub fields: CaseHead,
+    pub head: CaseHead,
 }
 
 // Line 1 of a refused reading.
@@ -57,13 +57,13 @@ pub fn read_case(text: &[u8], counts: &mut [u32], marks: &mut [u64]) -> Reading
     if refusal != 0 {
         return Reading {
             refusal: refusal,
-            fields: no_head(),
+            head: no_head(),
         };
     }
     fill_counts(text, counts);
     fill_marks(text, marks);
     Reading {
         refusal: 0,
-        fields: head_of(text),
+        head: head_of(text),
     }
 }

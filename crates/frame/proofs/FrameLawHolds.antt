@@ -68,7 +68,7 @@ fields-shown f b h fits =
     let stand = part-left t 0 frameDigits 1 (written (frameFields f)) lineEnd line (length-written (frameFields f)) in
     let r =
     fields-read (frameFields f) t 0
-    (omega arith, (fits .low, (fits .high, (fits .column, (fits .flag, (fits .row, (fits .place, (fits .people, (fits .intrinsic, (class-below (f .«final_class») (fits .final-class), tt))))))))))
+    (omega arith, (fits .low, (fits .high, (fits .column, (fits .flag, (fits .row-used, (fits .place, (fits .people, (fits .intrinsic, (class-below (f .«final_class») (fits .final-class), tt))))))))))
     stand in
     let s = r .1 .1 .1 .1 .1 in
     record {

@@ -19,7 +19,7 @@ classByte (negsuc n) = 255
 -- people 8; intrinsic class 2; final class 2"
 abbrev pub frameFields : FrameFields → List (ℕ × ℕ)
 frameFields f =
-    (refusalWidth, 0) ∷ (areaWidth, f .low) ∷ (areaWidth, f .high) ∷ (columnWidth, f .column) ∷ (flagWidth, f .flag) ∷ (rowWidth, f .row)
+    (refusalWidth, 0) ∷ (areaWidth, f .low) ∷ (areaWidth, f .high) ∷ (columnWidth, f .column) ∷ (flagWidth, f .flag) ∷ (rowWidth, f .«row_used»)
     ∷ (placeWidth, f .place) ∷ (peopleWidth, f .people) ∷ (classWidth, f .intrinsic) ∷ (classWidth, classByte (f .«final_class»)) ∷ []
 
 -- "40 digits and a line end"

@@ -26,7 +26,7 @@ fieldsIn t =
       high = field t highStart areaWidth;
       column = field t columnStart columnWidth;
       flag = field t flagStart flagWidth;
-      row = field t rowStart rowWidth;
+      «row_used» = field t rowStart rowWidth;
       place = field t placeStart placeWidth;
       people = field t peopleStart peopleWidth;
       intrinsic = field t intrinsicStart classWidth;
@@ -44,7 +44,7 @@ pub record FrameFits (f : FrameFields) : Type 0 where
   pub high : f .high < 16 ^ areaWidth
   pub column : f .column < 16 ^ columnWidth
   pub flag : f .flag < 16 ^ flagWidth
-  pub row : f .row < 16 ^ rowWidth
+  pub row-used : f .«row_used» < 16 ^ rowWidth
   pub place : f .place < 16 ^ placeWidth
   pub people : f .people < 16 ^ peopleWidth
   pub intrinsic : f .intrinsic < 16 ^ classWidth

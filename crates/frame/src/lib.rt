@@ -43,7 +43,7 @@ pub struct FrameFields {
     pub high: u64,
     pub column: u8,
     pub flag: u8,
-    pub row: u8,
+    pub row_used: u8,
     pub place: u32,
     pub people: u64,
     pub intrinsic: u8,
@@ -69,13 +69,13 @@ fn write_sheet_fields(buffer: &mut [u8], f: FrameFields)
     write_digits(&mut buffer[FLAG..ROW], f.flag as u64);
 }
 
-// The last five fields: table row, place, people and both classes.
+// The last five fields: table row used, place, people and both classes.
 fn write_class_fields(buffer: &mut [u8], f: FrameFields)
     requires { ⌜ frameLength ≤ length (now buffer) ⌝ }
     ensures { λ _. ⌜ now (buffer .exit) ≡ stored rowStart (written (drop 5 (frameFields f))) (now (buffer .entry)) ⌝ }
 {
     let last = class_byte(f.final_class);
-    write_digits(&mut buffer[ROW..PLACE], f.row as u64);
+    write_digits(&mut buffer[ROW..PLACE], f.row_used as u64);
     write_digits(&mut buffer[PLACE..PEOPLE], f.place as u64);
     write_digits(&mut buffer[PEOPLE..INTRINSIC], f.people);
     write_digits(&mut buffer[INTRINSIC..FINAL], f.intrinsic as u64);

@@ -83,7 +83,7 @@ module _ (t : List ℕ) (none : assessmentIn t .refusal ≡ 0) where
         high = rw (parts .sheet) (omega arith);
         column = rw (parts .sheet) (omega arith);
         flag = rw (parts .sheet) (omega (arith, demand .flag-zero-or-one));
-        row = rw (parts .row-used) (omega (arith, cond-le (eqb (headOf t .controlled) 1) {a = 1} {b = footprintIn t .row} {k = 7} (omega arith) (ranges .row-le)));
+        row-used = rw (parts .row-used) (omega (arith, cond-le (eqb (headOf t .controlled) 1) {a = 1} {b = footprintIn t .row} {k = 7} (omega arith) (ranges .row-le)));
         place = rw (parts .footprint) (omega (arith, ranges .place-lt));
         people = rw (parts .footprint) (omega (arith, ranges .people-le));
         intrinsic = rw (parts .intrinsic) (omega (arith, intrinsic-promise (sheetIn t .column) (footprintIn t .row) (headOf t .controlled) .class-le (parts .intrinsic-given)));

@@ -55,15 +55,15 @@ module _ (text counts marks frame : List ℕ) where
         outcome-is = unfold outcomeOf in simp (← refusal-is, ne-eqb (reading .refusal) 0 h)
 
     pub not-ended : {a : Assessment} {fields : FrameFields} {frame′ : List ℕ} → reading .refusal ≡ 0 →
-        a ≡ assessmentOf (reading .fields .dimension) (reading .fields .mass) (reading .fields .speed) counts′ marks′ (reading .fields .«cell_area») (reading .fields .controlled) (reading .fields .word) →
+        a ≡ assessmentOf (reading .head .dimension) (reading .head .mass) (reading .head .speed) counts′ marks′ (reading .head .«cell_area») (reading .head .controlled) (reading .head .word) →
         fields ≡ printedFields a → frame′ ≡ framed (a .refusal) fields frame → CasePromise text counts marks frame (a .refusal) counts′ marks′ frame′
     not-ended h e f g = printed (e ∙ outcome-is) f g
       where
         none : refusal ≡ 0
         none = sym refusal-is ∙ h
 
-        head-is : reading .fields ≡ headOf text
-        head-is = ap (λ (x : Reading). x .fields) (read .answer) ∙ unfold readingOf in simp (eq-eqb refusal 0 none)
+        head-is : reading .head ≡ headOf text
+        head-is = ap (λ (x : Reading). x .head) (read .answer) ∙ unfold readingOf in simp (eq-eqb refusal 0 none)
 
         counts-are : counts′ ≡ countsOf text
         counts-are = read .counts-left ∙ unfold leftIn in simp (eq-eqb refusal 0 none)
@@ -71,5 +71,5 @@ module _ (text counts marks frame : List ℕ) where
         marks-are : marks′ ≡ marksOf text
         marks-are = read .marks-left ∙ unfold leftIn in simp (eq-eqb refusal 0 none)
 
-        outcome-is : assessmentOf (reading .fields .dimension) (reading .fields .mass) (reading .fields .speed) counts′ marks′ (reading .fields .«cell_area») (reading .fields .controlled) (reading .fields .word) ≡ outcome
+        outcome-is : assessmentOf (reading .head .dimension) (reading .head .mass) (reading .head .speed) counts′ marks′ (reading .head .«cell_area») (reading .head .controlled) (reading .head .word) ≡ outcome
         outcome-is = unfold outcomeOf assessmentIn in simp (eq-eqb refusal 0 none, head-is, counts-are, marks-are)

@@ -51,7 +51,7 @@ pub record FrameTells (t : List ℕ) (shown : FrameFields) : Type 0 where
   pub high : shown .high ≡ sheetIn t .area .high
   pub column : shown .column ≡ sheetIn t .column
   pub flag : shown .flag ≡ sheetIn t .flag
-  pub row-used : shown .row ≡ usedRow (footprintIn t .row) (headOf t .controlled)
+  pub row-used : shown .«row_used» ≡ usedRow (footprintIn t .row) (headOf t .controlled)
   pub place : shown .place ≡ footprintIn t .place
   pub people : shown .people ≡ footprintIn t .people
   pub classes : ClassesShown t (sheetIn t .column) shown

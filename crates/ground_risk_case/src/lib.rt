@@ -20,7 +20,7 @@ fn printed_fields(a: Assessment) -> FrameFields
         high: area.high,
         column: sheet.column,
         flag: sheet.flag,
-        row: a.row_used,
+        row_used: a.row_used,
         place: footprint.place,
         people: footprint.people,
         intrinsic: a.intrinsic,
@@ -42,7 +42,7 @@ pub fn print_case(text: &[u8], counts: &mut [u32], marks: &mut [u64], frame: &mu
         write_frame(reading.refusal, printed_fields(nothing), frame);
         return reading.refusal;
     }
-    let head = reading.fields;
+    let head = reading.head;
     let a = assess(
         head.dimension,
         head.mass,

@@ -7,9 +7,9 @@ use borrow.Author.Tests.{eq-eqb, ne-eqb, ltb-false}
 use lib.Dec.{ltb, eqb}
 use Rattle.arithmetic.specs.Tests.{outside}
 use Rattle.arithmetic.proofs.TestLaws.{neither, inside, cond-le, le-cond}
-use Rattle.risk_class.specs.ClassTable.{noClass, classAt, usedRow, wrongColumn, wrongReading, classRefusal, intrinsicClassOf}
+use Rattle.risk_class.specs.ClassTable.{noClass, classAt, usedRow, wrongColumn, outsideTable, classRefusal, intrinsicClassOf}
 
-pub record Reading (column row controlled : ℕ) : Type 0 where
+pub record InTable (column row controlled : ℕ) : Type 0 where
   pub column-ge : 1 ≤ column
   pub column-le : column ≤ 5
   pub row-ge : 2 ≤ row
@@ -17,8 +17,8 @@ pub record Reading (column row controlled : ℕ) : Type 0 where
   pub controlled-le : controlled ≤ 1
 
 -- what is read from the table, where the test of refusal 9 failed
-pub reading : (column row controlled : ℕ) → wrongReading column row controlled ≡ false → Reading column row controlled
-reading column row controlled e =
+pub in-table : (column row controlled : ℕ) → outsideTable column row controlled ≡ false → InTable column row controlled
+in-table column row controlled e =
     let m = neither (wrongColumn column || outside 2 7 row) (ltb 1 controlled) e in
     let o = neither (wrongColumn column) (outside 2 7 row) (m .0) in
     let c = inside 1 5 column (o .0) in
@@ -30,11 +30,11 @@ used-in row controlled h l =
     (le-cond (eqb controlled 1) {a = 1} {b = row} {k = 1} (omega arith) (omega arith), cond-le (eqb controlled 1) {a = 1} {b = row} {k = 7} (omega arith) l)
 
 module _ (column row controlled : ℕ) where
-  pub refused-reading : wrongReading column row controlled ≡ true → record { refusal = 9; class = 0 } ≡ intrinsicClassOf column row controlled
+  pub refused-outside : outsideTable column row controlled ≡ true → record { refusal = 9; class = 0 } ≡ intrinsicClassOf column row controlled
   unfolding intrinsicClassOf classRefusal
-  refused-reading h = sym (simp h)
+  refused-outside h = sym (simp h)
 
-  module _ (r-in : wrongReading column row controlled ≡ false) {e : ℕ} (e-is : e ≡ classAt (usedRow row controlled) column) where
+  module _ (r-in : outsideTable column row controlled ≡ false) {e : ℕ} (e-is : e ≡ classAt (usedRow row controlled) column) where
     pub refused-none : e ≡ noClass → record { refusal = 10; class = 0 } ≡ intrinsicClassOf column row controlled
     unfolding intrinsicClassOf classRefusal
     refused-none z = sym (simp (r-in, eq-eqb (classAt (usedRow row controlled) column) noClass (sym e-is ∙ z)))

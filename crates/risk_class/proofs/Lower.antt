@@ -10,9 +10,9 @@ use lib.Dec.{eqb}
 use lib.IntN.{pos, subℕ}
 use lib.Signed.{ltZ, leZ, _≤ℤ_}
 use Rattle.arithmetic.proofs.TestLaws.{lt-or-le, not-outside}
-use Rattle.risk_class.specs.ClassTable.{noClass, classAt, usedRow, wrongReading, intrinsicClassOf}
+use Rattle.risk_class.specs.ClassTable.{noClass, classAt, usedRow, outsideTable, intrinsicClassOf}
 use Rattle.risk_class.specs.Mitigation.{creditOf, afterM1, finalClass, finalClassOf}
-use Rattle.risk_class.specs.Promises.{LowerReading, LowerEntry, IntrinsicLower, FinalLower, WorkingLower}
+use Rattle.risk_class.specs.Promises.{LowerInTable, LowerEntry, IntrinsicLower, FinalLower, WorkingLower}
 use Rattle.risk_class.proofs.TableLaws.{floor-in, table-lower}
 use Rattle.risk_class.proofs.ClassLaws.{used-in}
 use Rattle.risk_class.proofs.Promises as one
@@ -39,7 +39,7 @@ used-lower row controlled row′ controlled′ r1 l m m1 = by-tests (eqb control
     by-tests false true e e′ = r1
     by-tests false false e e′ = l
 
-module _ (column row controlled column′ row′ controlled′ : ℕ) (low : LowerReading column row controlled column′ row′ controlled′)
+module _ (column row controlled column′ row′ controlled′ : ℕ) (low : LowerInTable column row controlled column′ row′ controlled′)
     (ok : intrinsicClassOf column row controlled .refusal ≡ 0) where
   entry-lower : (1 ≤ classAt (usedRow row′ controlled′) column′) × (classAt (usedRow row′ controlled′) column′ ≤ classAt (usedRow row controlled) column)
   entry-lower =
@@ -53,7 +53,7 @@ module _ (column row controlled column′ row′ controlled′ : ℕ) (low : Low
   accepted-lower : intrinsicClassOf column′ row′ controlled′ .refusal ≡ 0
   accepted-lower =
       let r = one.read column row controlled ok in
-      let right : wrongReading column′ row′ controlled′ ≡ false =
+      let right : outsideTable column′ row′ controlled′ ≡ false =
       simp (not-outside 1 5 column′ (low .column-ge) (omega arith), not-outside 2 7 row′ (low .row-ge) (omega arith), le-ltb 1 controlled′ (low .controlled-le)) in
       one.refusal-is column′ row′ controlled′
       ∙ simp (right, ne-eqb (classAt (usedRow row′ controlled′) column′) noClass (λ z. omega (arith, entry-lower, z)))

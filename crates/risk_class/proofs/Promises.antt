@@ -10,11 +10,11 @@ use lib.Dec.{T, ltb, eqb}
 use lib.IntN.{ℤ, pos, negsuc, subℕ}
 use lib.Signed.{ltZ, leZ, _≤ℤ_}
 use Rattle.arithmetic.proofs.TestLaws.{lt-or-le, not-refused, neither, inside, any-is}
-use Rattle.risk_class.specs.ClassTable.{noClass, classAt, usedRow, wrongColumn, wrongReading, classRefusal, intrinsicClassOf}
+use Rattle.risk_class.specs.ClassTable.{noClass, classAt, usedRow, wrongColumn, outsideTable, classRefusal, intrinsicClassOf}
 use Rattle.risk_class.specs.Mitigation.{creditOf, anyNotOffered, isEntry, afterM1, finalClass, mitigationRefusal, finalClassOf}
 use Rattle.risk_class.specs.Promises.{IntrinsicPromise, FinalPromise}
 use Rattle.risk_class.proofs.TableLaws.{class-le, floor-in, table-lower, entry-row}
-use Rattle.risk_class.proofs.ClassLaws.{Reading, reading, used-in}
+use Rattle.risk_class.proofs.ClassLaws.{InTable, in-table, used-in}
 use Rattle.risk_class.proofs.MitigationLaws.{credits}
 
 -- a class is zero unless the refusal is 0
@@ -33,7 +33,7 @@ module _ (column row controlled : ℕ) where
   listed-class false false e = inl e
 
   pub refusal-is : intrinsicClassOf column row controlled .refusal
-      ≡ cond (wrongReading column row controlled) 9 (cond (eqb (classAt (usedRow row controlled) column) noClass) 10 0)
+      ≡ cond (outsideTable column row controlled) 9 (cond (eqb (classAt (usedRow row controlled) column) noClass) 10 0)
   unfolding intrinsicClassOf classRefusal
   refusal-is = refl
 
@@ -46,14 +46,14 @@ module _ (column row controlled : ℕ) where
     unfolding intrinsicClassOf
     class-is = where-none (classRefusal column row controlled) (classAt (usedRow row controlled) column) 0 ok
 
-    none-refused : (wrongReading column row controlled ≡ false) × (eqb (classAt (usedRow row controlled) column) noClass ≡ false)
+    none-refused : (outsideTable column row controlled ≡ false) × (eqb (classAt (usedRow row controlled) column) noClass ≡ false)
     none-refused =
         let last : ℕ = cond (eqb (classAt (usedRow row controlled) column) noClass) 10 0 in
-        let h9 = not-refused (wrongReading column row controlled) 8 last (sym refusal-is ∙ ok) in
+        let h9 = not-refused (outsideTable column row controlled) 8 last (sym refusal-is ∙ ok) in
         (h9 .0, not-refused (eqb (classAt (usedRow row controlled) column) noClass) 9 0 (h9 .1) .0)
 
-    pub read : Reading column row controlled
-    read = reading column row controlled (none-refused .0)
+    pub read : InTable column row controlled
+    read = in-table column row controlled (none-refused .0)
 
     pub used : (1 ≤ usedRow row controlled) × (usedRow row controlled ≤ 7)
     used = used-in row controlled (read .row-ge) (read .row-le)
@@ -71,7 +71,7 @@ module _ (column row controlled : ℕ) where
 
   pub intrinsic-promise : IntrinsicPromise column row controlled
   intrinsic-promise = record {
-    listed = listed-class (wrongReading column row controlled) (eqb (classAt (usedRow row controlled) column) noClass) refusal-is;
+    listed = listed-class (outsideTable column row controlled) (eqb (classAt (usedRow row controlled) column) noClass) refusal-is;
     zero-class = zero-class;
     class-ge = λ ok. omega (arith, class-is ok, some-class ok);
     class-le = λ ok. rw (class-is ok) (class-le (usedRow row controlled) column (used ok .0) (used ok .1) (read ok .column-ge) (read ok .column-le));

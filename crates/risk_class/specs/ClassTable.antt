@@ -41,13 +41,13 @@ abbrev pub wrongColumn : ℕ → Bool
 wrongColumn column = outside 1 columns column
 
 -- "9 column not 1 to 5, row not 2 to 7, or mark not 0 or 1"
-abbrev pub wrongReading : ℕ → ℕ → ℕ → Bool
-wrongReading column row controlled = wrongColumn column || outside 2 rows row || ltb 1 controlled
+abbrev pub outsideTable : ℕ → ℕ → ℕ → Bool
+outsideTable column row controlled = wrongColumn column || outside 2 rows row || ltb 1 controlled
 
 -- "Class refusals", in the order tested: 9, and 10 where the entry is "none"; 0 where there is none
 unfoldable pub classRefusal : ℕ → ℕ → ℕ → ℕ
 classRefusal column row controlled =
-    cond (wrongReading column row controlled) 9 (cond (eqb (classAt (usedRow row controlled) column) noClass) 10 0)
+    cond (outsideTable column row controlled) 9 (cond (eqb (classAt (usedRow row controlled) column) noClass) 10 0)
 
 -- the intrinsic class; "The answer is zero then", where it is refused
 unfoldable pub intrinsicClassOf : ℕ → ℕ → ℕ → IntrinsicClass

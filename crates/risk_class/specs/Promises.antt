@@ -33,7 +33,7 @@ pub record FinalPromise (column class word : ℕ) : Type 0 where
 
 -- ---- a lower column, a lower row, controlled ground
 
-pub record LowerReading (column row controlled column′ row′ controlled′ : ℕ) : Type 0 where
+pub record LowerInTable (column row controlled column′ row′ controlled′ : ℕ) : Type 0 where
   pub column-ge : 1 ≤ column′
   pub column-le : column′ ≤ column
   pub row-ge : 2 ≤ row′
@@ -43,7 +43,7 @@ pub record LowerReading (column row controlled column′ row′ controlled′ : 
 
 -- it loses no intrinsic class, and raises none
 abbrev pub IntrinsicLower : Type 0
-IntrinsicLower = (column row controlled column′ row′ controlled′ : ℕ) → LowerReading column row controlled column′ row′ controlled′
+IntrinsicLower = (column row controlled column′ row′ controlled′ : ℕ) → LowerInTable column row controlled column′ row′ controlled′
     → intrinsicClassOf column row controlled .refusal ≡ 0
     → (intrinsicClassOf column′ row′ controlled′ .refusal ≡ 0)
     × (intrinsicClassOf column′ row′ controlled′ .class ≤ intrinsicClassOf column row controlled .class)
@@ -63,7 +63,7 @@ FinalLower = (column class column′ class′ word : ℕ) → LowerEntry column 
 
 -- the two together: the class table, and then the mitigation word over the class that it gave
 abbrev pub WorkingLower : Type 0
-WorkingLower = (column row controlled column′ row′ controlled′ word : ℕ) → LowerReading column row controlled column′ row′ controlled′
+WorkingLower = (column row controlled column′ row′ controlled′ word : ℕ) → LowerInTable column row controlled column′ row′ controlled′
     → intrinsicClassOf column row controlled .refusal ≡ 0
     → finalClassOf column (intrinsicClassOf column row controlled .class) word .refusal ≡ 0
     → (finalClassOf column′ (intrinsicClassOf column′ row′ controlled′ .class) word .refusal ≡ 0)

@@ -4,19 +4,19 @@ use Prim.Native.Nat.{ℕ}
 use native.Mathlib.Omega.{arith}
 use borrow.Author.Needs.{needs}
 use Rattle.risk_class.specs.ClassTable.{classAt, usedRow}
-use Rattle.risk_class.proofs.ClassLaws.{Reading, reading, used-in, refused-reading, refused-none, given}
+use Rattle.risk_class.proofs.ClassLaws.{InTable, in-table, used-in, refused-outside, refused-none, given}
 use Rattle.risk_class.proofs.class_table.intrinsic_class.Statement.{statement}
 use Rattle.risk_class.proofs.class_table.intrinsic_class.Tie as tie
 
-read-in : (c : tie.Else1) → Reading (c .before .args .column) (c .before .args .row) (c .before .args .controlled)
-read-in c = reading (c .before .args .column) (c .before .args .row) (c .before .args .controlled) (c .if1 .left)
+read-in : (c : tie.Else1) → InTable (c .before .args .column) (c .before .args .row) (c .before .args .controlled)
+read-in c = in-table (c .before .args .column) (c .before .args .row) (c .before .args .controlled) (c .if1 .left)
 
 class-is : (c : tie.After-entry)
     → c .entry .result ≡ classAt (usedRow (c .before .before .before .args .row) (c .before .before .before .args .controlled)) (c .before .before .before .args .column)
 class-is c = c .entry .ensures ∙ ap (λ (r : ℕ). classAt r (c .before .before .before .args .column)) (c .before .used-row .ensures)
 
 returns : tie.Need-returns
-returns c = refused-reading _ _ _ (c .if1 .taken)
+returns c = refused-outside _ _ _ (c .if1 .taken)
 
 used-row-requires : tie.Need-used-row-requires
 used-row-requires c κs = search needs
