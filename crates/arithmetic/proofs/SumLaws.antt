@@ -260,14 +260,14 @@ module _ (f : ℕ → ℕ) (w : ℕ) where
 -- ---- by columns: f over n rows of four indices each
 
 -- the larger of two pairs, and of two fours, place by place
-swap : (a b x y : ℕ) → max (max a b) (max x y) ≡ max (max a x) (max b y)
-swap a b x y = omega arith
+max-swap : (a b x y : ℕ) → max (max a b) (max x y) ≡ max (max a x) (max b y)
+max-swap a b x y = omega arith
 
-swap-four : (a b c d x y z t : ℕ)
+max-swap-four : (a b c d x y z t : ℕ)
     → max (max (max (max a b) c) d) (max (max (max x y) z) t) ≡ max (max (max (max a x) (max b y)) (max c z)) (max d t)
-swap-four a b c d x y z t =
-    swap (max (max a b) c) d (max (max x y) z) t
-    ∙ ap (λ (m : ℕ). max m (max d t)) (swap (max a b) c (max x y) z ∙ ap (λ (m : ℕ). max m (max c z)) (swap a b x y))
+max-swap-four a b c d x y z t =
+    max-swap (max (max a b) c) d (max (max x y) z) t
+    ∙ ap (λ (m : ℕ). max m (max d t)) (max-swap (max a b) c (max x y) z ∙ ap (λ (m : ℕ). max m (max c z)) (max-swap a b x y))
 
 module _ (f : ℕ → ℕ) where
   pub sum-columns : (n : ℕ) → sumBelow f (4 * n)
@@ -283,7 +283,7 @@ module _ (f : ℕ → ℕ) where
   max-columns (suc n) =
       ap (maxBelow f) (next-row f 4 n) ∙ max-add f (4 * n) 4
       ∙ ap₂ max (max-columns n) (ap (λ (x : ℕ). max (max (max x (f (4 * n + 1))) (f (4 * n + 2))) (f (4 * n + 3))) (zero-max (f (4 * n + 0))))
-      ∙ swap-four _ _ _ _ (f (4 * n + 0)) (f (4 * n + 1)) (f (4 * n + 2)) (f (4 * n + 3))
+      ∙ max-swap-four _ _ _ _ (f (4 * n + 0)) (f (4 * n + 1)) (f (4 * n + 2)) (f (4 * n + 3))
 
 -- ---- the digits of a number
 

@@ -50,7 +50,7 @@ module _ (counts : List ℕ) (bits limit : ℕ) where
     marked-small : (i : ℕ) → i < rowCells → markedCount counts bits i ≤ largestCount
     marked-small i l = le-trans (marked-le (bitAt bits i) (countAt counts i) (omega arith)) (small i l)
 
-    pub lane-le : (j k : ℕ) {lane : Lane} → j < 4 → k ≤ 16 → lane ≡ laneOf counts bits limit j k → (lane .people ≤ k * largestCount) × (lane .above < 2)
+    lane-le : (j k : ℕ) {lane : Lane} → j < 4 → k ≤ 16 → lane ≡ laneOf counts bits limit j k → (lane .people ≤ k * largestCount) × (lane .above < 2)
     lane-le j k h l e = (
       omega (arith, ap (λ (x : Lane). x .people) e, sum-le (λ i. markedCount counts bits (4 * i + j)) largestCount k (λ i m. marked-small (4 * i + j) (omega arith))),
       omega (arith, ap (λ (x : Lane). x .above) e, max-le (λ i. aboveLimit limit (markedCount counts bits (4 * i + j))) 1 k (λ i m. le-of-suc-le-suc (above-lt limit (markedCount counts bits (4 * i + j))))),
@@ -78,16 +78,19 @@ module _ (counts : List ℕ) (bits limit : ℕ) where
         ∙ max-map (markedCount counts bits) (aboveLimit limit) (above-zero limit) (above-mono limit) rowCells
 
     -- the four lanes are the row
-    pub lanes-all : {a b c d : Lane} → a ≡ lane 0 → b ≡ lane 1 → c ≡ lane 2 → d ≡ lane 3
-        → record { people = a .people + b .people + c .people + d .people; above = ltb 0 (bitOr (bitOr (bitOr (a .above) (b .above)) (c .above)) (d .above)) } ≡ rowSum counts bits limit
-    lanes-all ea eb ec ed =
-        let p = sym (sum-columns (markedCount counts bits) 16) in
-        let t = ap (ltb 0) above-is ∙ as-test (ltb limit (maxBelow (markedCount counts bits) rowCells)) in
-        rw (ea, eb, ec, ed) (λ i. record { people = p i; above = t i })
-      where
-        as-test : (t : Bool) → ltb 0 (cond t 1 0) ≡ t
-        as-test true = refl
-        as-test false = refl
+    module _ {a b c d : Lane} (ea : a ≡ lane 0) (eb : b ≡ lane 1) (ec : c ≡ lane 2) (ed : d ≡ lane 3) where
+      pub lanes-all : record { people = a .people + b .people + c .people + d .people; above = ltb 0 (bitOr (bitOr (bitOr (a .above) (b .above)) (c .above)) (d .above)) } ≡ rowSum counts bits limit
+      lanes-all =
+          let p = sym (sum-columns (markedCount counts bits) 16) in
+          let t = ap (ltb 0) above-is ∙ as-test (ltb limit (maxBelow (markedCount counts bits) rowCells)) in
+          rw (ea, eb, ec, ed) (λ i. record { people = p i; above = t i })
+        where
+          as-test : (t : Bool) → ltb 0 (cond t 1 0) ≡ t
+          as-test true = refl
+          as-test false = refl
+
+      pub people-le : a .people + b .people + c .people + d .people ≤ rowCells * largestCount
+      people-le = omega (arith, ap (λ (x : RowSum). x .people) lanes-all, sum-le (markedCount counts bits) largestCount rowCells marked-small)
 
 -- ---- a key above those before it
 

@@ -30,6 +30,7 @@ abbrev cell : tie.Start Inv-loop μ-loop → ℕ → ℕ → ℕ
 cell start j k = markedCount (start .args .counts .now) (start .args .bits) (4 * k + j)
 
 module _ (c : tie.In-loop Inv-loop μ-loop) (j : ℕ) (l : j < 4) where
+  -- what reading a cell asks
   read : Masks (c .before .before .before .args .masks .now) × (length (c .before .before .before .args .counts .now) ≡ rowCells) × (c .before .loop .k < 16) × (j < 4)
   read = let start = c .before .before .before in (start .pre .0, start .pre .1, omega arith, l)
 
@@ -75,45 +76,44 @@ loop-less c = omega arith
 
 loop-again : tie.Need-loop-again Inv-loop μ-loop
 loop-again c =
-    let at = c .before .before .before .before .before .before .before .before .before .loop in (
+    let here = c .before .before .before .before .before .before .before .before in
+    let at = here .before .loop in (
       omega arith,
-      c .before .before .before .before .before .before .with-cell .ensures ∙ next (c .before .before .before .before .before .before .before .before) 0 (omega arith) (at .inv .1) (c .before .before .before .before .before .before .before .marked-count .ensures),
-      c .before .before .before .before .with-cell2 .ensures ∙ next (c .before .before .before .before .before .before .before .before) 1 (omega arith) (at .inv .2) (c .before .before .before .before .before .marked-count2 .ensures),
-      c .before .before .with-cell3 .ensures ∙ next (c .before .before .before .before .before .before .before .before) 2 (omega arith) (at .inv .3) (c .before .before .before .marked-count3 .ensures),
-      c .with-cell4 .ensures ∙ next (c .before .before .before .before .before .before .before .before) 3 (omega arith) (at .inv .4) (c .before .marked-count4 .ensures),
+      c .before .before .before .before .before .before .with-cell .ensures ∙ next here 0 (omega arith) (at .inv .1) (c .before .before .before .before .before .before .before .marked-count .ensures),
+      c .before .before .before .before .with-cell2 .ensures ∙ next here 1 (omega arith) (at .inv .2) (c .before .before .before .before .before .marked-count2 .ensures),
+      c .before .before .with-cell3 .ensures ∙ next here 2 (omega arith) (at .inv .3) (c .before .before .before .marked-count3 .ensures),
+      c .with-cell4 .ensures ∙ next here 3 (omega arith) (at .inv .4) (c .before .marked-count4 .ensures),
     )
 
--- what the lanes leave fits its type
-people-le : (c : tie.After-loop Inv-loop μ-loop) (j : ℕ) {x : Lane} → j < 4 → x ≡ lane (c .before .before .before) j (c .before .loop .k)
-    → x .people ≤ 16 * largestCount
-people-le c j l e =
+-- the lanes after all steps
+after : (c : tie.After-loop Inv-loop μ-loop) → let start = c .before .before .before in let at = c .before .loop in
+    (at .a ≡ lane start 0 16) × (at .b ≡ lane start 1 16) × (at .c ≡ lane start 2 16) × (at .d ≡ lane start 3 16)
+after c =
     let start = c .before .before .before in
-    let past : c .before .loop .k ≡ 16 = omega arith in
-    let le = law.lane-le (start .args .counts .now) (start .args .bits) (start .args .limit) (start .pre .2) j (c .before .loop .k) l (omega arith) e in
-    omega (arith, le .0)
+    let at = c .before .loop in
+    let past : at .k ≡ 16 = omega arith in
+    (at .inv .1 ∙ ap (lane start 0) past, at .inv .2 ∙ ap (lane start 1) past, at .inv .3 ∙ ap (lane start 2) past, at .inv .4 ∙ ap (lane start 3) past)
+
+people-le : (c : tie.After-loop Inv-loop μ-loop) → let at = c .before .loop in at .a .people + at .b .people + at .c .people + at .d .people ≤ rowCells * largestCount
+people-le c =
+    let start = c .before .before .before in
+    let is = after c in
+    law.people-le (start .args .counts .now) (start .args .bits) (start .args .limit) (start .pre .2) (is .0) (is .1) (is .2) (is .3)
 
 add-t12 : tie.Need-add-t12 Inv-loop μ-loop
-add-t12 c =
-    let at = c .before .before .before .loop in
-    omega (arith, people-le (c .before .before) 0 (omega arith) (at .inv .1), people-le (c .before .before) 1 (omega arith) (at .inv .2))
+add-t12 c = omega (arith, people-le (c .before .before))
 
 add-t13 : tie.Need-add-t13 Inv-loop μ-loop
-add-t13 c =
-    let at = c .before .before .before .before .loop in
-    omega (arith, people-le (c .before .before .before) 0 (omega arith) (at .inv .1), people-le (c .before .before .before) 1 (omega arith) (at .inv .2), people-le (c .before .before .before) 2 (omega arith) (at .inv .3))
+add-t13 c = omega (arith, people-le (c .before .before .before))
 
 add-t14 : tie.Need-add-t14 Inv-loop μ-loop
-add-t14 c =
-    let at = c .before .before .before .before .before .loop in
-    omega (arith, people-le (c .before .before .before .before) 0 (omega arith) (at .inv .1), people-le (c .before .before .before .before) 1 (omega arith) (at .inv .2), people-le (c .before .before .before .before) 2 (omega arith) (at .inv .3), people-le (c .before .before .before .before) 3 (omega arith) (at .inv .4))
+add-t14 c = omega (arith, people-le (c .before .before .before .before))
 
 returns : tie.Need-returns Inv-loop μ-loop
 returns c =
-    let at = c .before .before .before .before .before .before .before .before .before .loop in
     let start = c .before .before .before .before .before .before .before .before .before .before .before in
-    let past : at .k ≡ 16 = omega arith in
-    law.lanes-all (start .args .counts .now) (start .args .bits) (start .args .limit) (start .pre .2)
-    (at .inv .1 ∙ ap (lane start 0) past) (at .inv .2 ∙ ap (lane start 1) past) (at .inv .3 ∙ ap (lane start 2) past) (at .inv .4 ∙ ap (lane start 3) past)
+    let is = after (c .before .before .before .before .before .before .before .before) in
+    law.lanes-all (start .args .counts .now) (start .args .bits) (start .args .limit) (start .pre .2) (is .0) (is .1) (is .2) (is .3)
 
 pub sum-row-spec : {M : Type 1} → statement M
 sum-row-spec =
