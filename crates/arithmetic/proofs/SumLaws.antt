@@ -1,9 +1,9 @@
--- Laws of sums, maxima and first maxima over 0, .., n - 1: equal values, larger values, one index more, two runs, rows of one width.
+-- Laws of sums, maxima and first maxima over 0, .., n - 1: equal values, larger values, one index more, two runs, rows of one width, columns.
 use mathlib.Core.Path.{_≡_, refl, sym, ap, ap₂, _∙_}
 use mathlib.Core.Logic.{⊎-elim}
 use mathlib.Core.Bool.{Bool, true, false, cond}
 use Prim.Native.Nat.{ℕ, zero, suc, _+_, _-_, _*_, _/_, _%_, _^_, _≤_, _<_, max}
-use native.Mathlib.Nat.{add-zero, add-suc, le-suc, le-refl, le-trans, max-zero, max-eq-left, max-eq-right, le-of-lt, div-div-eq-div-mul, pow-succ'}
+use native.Mathlib.Nat.{add-zero, add-suc, le-suc, le-refl, le-trans, max-zero, zero-max, max-eq-left, max-eq-right, le-of-lt, div-div-eq-div-mul, pow-succ'}
 use native.Mathlib.Omega.{arith}
 use native.Mathlib.Numerals.{add-one}
 use borrow.Author.Tests.{lt-ltb, le-ltb}
@@ -256,6 +256,34 @@ module _ (f : ℕ → ℕ) (w : ℕ) where
       here ∙ left (firstInRow n) (firstMaxBelow f (w * n)) (le-ltb (maxBelow f (w * n)) (rowMax n) l) ∙ first-rows n more
       ∙ sym (ap firstInRow (first-suc n ∙ left n (firstMaxBelow rowMax n) (le-ltb (maxBelow rowMax n) (rowMax n) l′))))
       (lt-or-le (maxBelow f (w * n)) (rowMax n))
+
+-- ---- by columns: f over n rows of four indices each
+
+-- the larger of two pairs, and of two fours, place by place
+max-swap : (a b x y : ℕ) → max (max a b) (max x y) ≡ max (max a x) (max b y)
+max-swap a b x y = omega arith
+
+max-swap-four : (a b c d x y z t : ℕ)
+    → max (max (max (max a b) c) d) (max (max (max x y) z) t) ≡ max (max (max (max a x) (max b y)) (max c z)) (max d t)
+max-swap-four a b c d x y z t =
+    max-swap (max (max a b) c) d (max (max x y) z) t
+    ∙ ap (λ (m : ℕ). max m (max d t)) (max-swap (max a b) c (max x y) z ∙ ap (λ (m : ℕ). max m (max c z)) (max-swap a b x y))
+
+module _ (f : ℕ → ℕ) where
+  pub sum-columns : (n : ℕ) → sumBelow f (4 * n)
+      ≡ sumBelow (λ i. f (4 * i + 0)) n + sumBelow (λ i. f (4 * i + 1)) n + sumBelow (λ i. f (4 * i + 2)) n + sumBelow (λ i. f (4 * i + 3)) n
+  unfolding sumBelow
+  sum-columns zero = refl
+  sum-columns (suc n) = omega (arith, sum-columns n, ap (sumBelow f) (next-row f 4 n) ∙ sum-add f (4 * n) 4)
+
+  pub max-columns : (n : ℕ) → maxBelow f (4 * n)
+      ≡ max (max (max (maxBelow (λ i. f (4 * i + 0)) n) (maxBelow (λ i. f (4 * i + 1)) n)) (maxBelow (λ i. f (4 * i + 2)) n)) (maxBelow (λ i. f (4 * i + 3)) n)
+  unfolding maxBelow
+  max-columns zero = refl
+  max-columns (suc n) =
+      ap (maxBelow f) (next-row f 4 n) ∙ max-add f (4 * n) 4
+      ∙ ap₂ max (max-columns n) (ap (λ (x : ℕ). max (max (max x (f (4 * n + 1))) (f (4 * n + 2))) (f (4 * n + 3))) (zero-max (f (4 * n + 0))))
+      ∙ max-swap-four _ _ _ _ (f (4 * n + 0)) (f (4 * n + 1)) (f (4 * n + 2)) (f (4 * n + 3))
 
 -- ---- the digits of a number
 

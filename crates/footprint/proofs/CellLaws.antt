@@ -1,19 +1,27 @@
--- Laws of one cell and of sums and maxima of marked cells: marks, keys, and the table row, which keeps the order of the counts.
-use mathlib.Core.Path.{_≡_, refl, _∙_}
+-- Laws of one cell and of sums and maxima of marked cells: marks, keys, masks, and the table row, which keeps the order of the counts.
+use mathlib.Core.Path.{_≡_, refl, sym, ap, ap₂, _∙_}
 use mathlib.Core.Logic.{⊎-elim}
-use mathlib.Core.Bool.{cond}
-use mathlib.Core.List.{List}
-use Prim.Native.Nat.{ℕ, zero, suc, _+_, _-_, _*_, _/_, _%_, _^_, _≤_, _<_, zero-le}
-use native.Mathlib.Nat.{le-refl, le-trans, not-suc-le-zero, le-of-suc-le-suc, zero-mul, one-mul, mul-le-mul-right}
+use mathlib.Core.Bool.{Bool, true, cond}
+use mathlib.Core.List.{List, []}
+use Prim.Native.Nat.{ℕ, zero, suc, _+_, _-_, _*_, _/_, _%_, _^_, _≤_, _<_, zero-le, max}
+use native.Mathlib.Nat.{le-refl, le-trans, not-suc-le-zero, le-of-suc-le-suc, zero-mul, one-mul, mul-le-mul-right, mod-eq-of-lt, div-div-eq-div-mul}
 use native.Mathlib.Numerals.{add-one}
 use native.Mathlib.Omega.{arith}
-use borrow.Author.Tests.{lt-ltb, le-ltb}
+use borrow.Author.Tests.{lt-ltb, le-ltb, eqb-true}
+use lib.Bits.{bitAnd, bitOr, and-mask, and-zero-r}
 use lib.Count.{ones}
-use lib.Dec.{lit≤}
+use lib.Dec.{ltb, eqb, lit≤}
+use lib.ListN.{length, getD}
+use lib.Pow.{pow-add}
+use lib.Signed.{ltZ}
+use mir.Syntax.{w32}
+use mir.Val.{toZ}
+use mir.ValLaws.{toZ-pos}
 use Rattle.arithmetic.specs.SumsAndMaxima.{sumBelow, maxBelow}
-use Rattle.arithmetic.proofs.TestLaws.{lt-or-le, cond-le, le-cond}
+use Rattle.arithmetic.proofs.TestLaws.{lt-or-le, cond-le, le-cond, allBelow, all-below}
 use Rattle.arithmetic.proofs.SumLaws.{sum-same, max-same, max-map, ones-sum}
 use Rattle.footprint.specs.Map.{rowCells, largestCount, squareKilometre, bitAt, markAt, belowDensity, tableRow}
+use Rattle.footprint.specs.Walk.{Masks, maskOf}
 
 -- ---- marks
 
@@ -37,12 +45,6 @@ ones-of-row bits h =
     ∙ sum-same (λ c. bits / 2 ^ (64 - suc c) % 2) (bitAt bits) 64 (λ c l. let e : 64 - suc c ≡ 63 - c = omega arith in rw e)
 
 module _ (mark count : ℕ → ℕ) where
-  -- the keys together are the people and the marked cells
-  pub sum-keys : (n : ℕ) → sumBelow (λ i. mark i * (count i + 1)) n ≡ sumBelow (λ i. mark i * count i) n + sumBelow mark n
-  unfolding sumBelow
-  sum-keys zero = refl
-  sum-keys (suc n) = omega (arith, sum-keys n)
-
   -- where no key is above 0, nothing is marked
   pub no-key : (n : ℕ) → maxBelow (λ i. mark i * (count i + 1)) n ≡ 0 → sumBelow mark n ≡ 0
   unfolding sumBelow maxBelow
@@ -54,6 +56,54 @@ module _ (mark count : ℕ → ℕ) where
       clear : (m x : ℕ) → m * (x + 1) ≡ 0 → m ≡ 0
       clear zero x h = refl
       clear (suc m) x h = let wrong : ⊥ = omega arith in absurd wrong
+
+-- ---- masks and comparisons
+
+-- a cell's bit is that of the four bits which hold it
+pub four-bit : (bits k j : ℕ) → k < 16 → j < 4 → bits / 2 ^ (60 - 4 * k) % 16 / 2 ^ (3 - j) % 2 ≡ bitAt bits (4 * k + j)
+four-bit bits k j h l =
+    let e : 60 - 4 * k + (3 - j) ≡ 63 - (4 * k + j) = omega arith in
+    low (bits / 2 ^ (60 - 4 * k)) (3 - j) (omega arith)
+    ∙ ap (λ (x : ℕ). x % 2) (div-div-eq-div-mul bits (2 ^ (60 - 4 * k)) (2 ^ (3 - j)) ∙ ap (λ (x : ℕ). bits / x) (sym (pow-add 2 (60 - 4 * k) (3 - j)) ∙ ap (λ (x : ℕ). 2 ^ x) e))
+  where
+    low : (x i : ℕ) → i < 4 → x % 16 / 2 ^ i % 2 ≡ x / 2 ^ i % 2
+    low x zero h = omega arith
+    low x (suc zero) h = omega arith
+    low x (suc (suc zero)) h = omega arith
+    low x (suc (suc (suc zero))) h = omega arith
+    low x (suc (suc (suc (suc i)))) h = let wrong : ⊥ = omega arith in absurd wrong
+
+-- a mask keeps a marked count and makes any other 0
+pub masked : (m x : ℕ) → m < 2 → x < 2 ^ 32 → bitAnd x (m * (2 ^ 32 - 1)) ≡ m * x
+masked zero x h l = and-zero-r x ∙ sym (zero-mul x)
+masked (suc zero) x h l = and-mask x 32 ∙ mod-eq-of-lt l ∙ sym (one-mul x)
+masked (suc (suc m)) x h l = let wrong : ⊥ = omega arith in absurd wrong
+
+-- the table of the masks, by a test of each entry that is computed
+abbrev maskTest : List (List ℕ) → ℕ → ℕ → Bool
+maskTest masks n j = eqb (getD (getD masks n []) j 0) (maskOf n j)
+
+pub masks-are : (masks : List (List ℕ)) → length masks ≡ 16 → allBelow (λ n. allBelow (maskTest masks n) 4) 16 ≡ true → Masks masks
+masks-are masks e t = record {
+  numbers = e;
+  mask = λ n j h l. eqb-true _ _ (all-below (maskTest masks n) 4 (all-below (λ n. allBelow (maskTest masks n) 4) 16 t n h) j l);
+}
+
+-- below the sign bit a comparison of signed numbers is that of the numbers
+pub signed-less : (a b : ℕ) → a < 2 ^ 31 → b < 2 ^ 31 → ltZ (toZ w32 a) (toZ w32 b) ≡ ltb a b
+signed-less a b h k = ap₂ ltZ (toZ-pos w32 a h) (toZ-pos w32 b k)
+
+-- of 0 and 1, "or" is the larger
+pub or-larger : (a b : ℕ) → a < 2 → b < 2 → bitOr a b ≡ max a b
+or-larger zero b h l = omega arith
+or-larger (suc zero) zero h l = refl
+or-larger (suc zero) (suc zero) h l = refl
+or-larger (suc zero) (suc (suc b)) h l = let wrong : ⊥ = omega arith in absurd wrong
+or-larger (suc (suc a)) b h l = let wrong : ⊥ = omega arith in absurd wrong
+
+pub or-four : (a b c d : ℕ) → a < 2 → b < 2 → c < 2 → d < 2 → bitOr (bitOr (bitOr a b) c) d ≡ max (max (max a b) c) d
+or-four a b c d ha hb hc hd =
+    rw (or-larger a b ha hb, or-larger (max a b) c (omega arith) hc) (or-larger (max (max a b) c) d (omega arith) hd)
 
 -- ---- the table row
 

@@ -1,4 +1,5 @@
 pub mod CellLaws
+pub mod RowLaws
 pub mod WalkLaws
 pub mod AnswerLaws
 pub mod Promises

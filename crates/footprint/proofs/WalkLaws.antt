@@ -1,12 +1,11 @@
--- Laws of the walk: what a map row's loop leaves, a map row lent as a part, the map with one row more, and the answer from the whole.
+-- Laws of the walk: a map row lent as a part, the map with one row more, and the answer from the whole.
 use mathlib.Core.Path.{_≡_, refl, sym, ap, ap₂, _∙_}
-use mathlib.Core.Bool.{false, cond}
+use mathlib.Core.Bool.{Bool, false, cond}
 use mathlib.Core.List.{List}
 use Prim.Native.Nat.{ℕ, zero, suc, _+_, _-_, _*_, _/_, _%_, _^_, _≤_, _<_}
-use native.Mathlib.Nat.{zero-div, le-trans, le-of-suc-le-suc}
+use native.Mathlib.Nat.{le-trans, le-of-suc-le-suc}
 use native.Mathlib.Omega.{arith}
 use borrow.Author.Tests.{ltb-false}
-use lib.Count.{ones}
 use lib.Dec.{ltb}
 use lib.ListN.{length, getD, take, drop, length-take, length-drop}
 use lib.Seq.{getD-take, getD-drop}
@@ -14,50 +13,16 @@ use Rattle.arithmetic.specs.SumsAndMaxima.{sumBelow, maxBelow, firstMaxBelow}
 use Rattle.arithmetic.proofs.TestLaws.{any-none}
 use Rattle.arithmetic.proofs.SumLaws.{sum-same, max-same, first-same, sum-add, max-add, first-next, sum-le, max-le, first-lt, first-at, max-rows, first-rows, firstInRow}
 use Rattle.footprint.specs.Map.{mapCells, mapRows, rowCells, largestCount, countAt, bitAt, markAt, keyAt, tableRow, highestRow, firstLargest, cellsIn, wrongCount, foundFootprint}
-use Rattle.footprint.specs.Walk.{rowKey, rowWalk, withRow, rowWorst, mapWalk}
-use Rattle.footprint.specs.declared.walk.RowWalk.{RowWalk}
+use Rattle.footprint.specs.Walk.{largestKey, rowKey, markedCount, keyAbove, rowWalk, withRow, rowWorst, mapWalk}
+use Rattle.footprint.specs.declared.row.RowWalk.{RowWalk}
 use Rattle.footprint.specs.declared.walk.MapWalk.{MapWalk}
-use Rattle.footprint.proofs.CellLaws.{mark-lt, marked-le, ones-of-row, sum-keys, no-key, rowOfKey, row-of-largest}
+use Rattle.footprint.proofs.CellLaws.{mark-lt, marked-le, key-le, no-key, rowOfKey, row-of-largest}
+use Rattle.footprint.proofs.RowLaws.{max-above, less-above}
 
 -- every count is in its range where the test of refusal 7 failed
 pub counts-small : (counts : List ℕ) → wrongCount counts ≡ false → (i : ℕ) → i < mapCells → countAt counts i ≤ largestCount
 counts-small counts h i l =
     ltb-false largestCount (countAt counts i) (any-none (λ p. ltb largestCount (countAt counts p)) mapCells h i l)
-
--- ---- a map row, from what its loop leaves
-
-module _ (counts : List ℕ) (bits : ℕ) {sum : ℕ} (small : bits < 2 ^ 64) (s : sum ≡ sumBelow (rowKey counts bits) rowCells) where
-  keys : sum ≡ sumBelow (λ c. bitAt bits c * countAt counts c) rowCells + ones bits
-  keys =
-      s ∙ sum-keys (bitAt bits) (countAt counts) rowCells
-      ∙ ap (λ (x : ℕ). sumBelow (λ c. bitAt bits c * countAt counts c) rowCells + x) (sym (ones-of-row bits small))
-
-  pub cells-le : ones bits ≤ sum
-  cells-le = omega (arith, keys)
-
-  pub row-is : {worst : ℕ} → worst ≡ maxBelow (rowKey counts bits) rowCells
-      → record { worst = worst; people = sum - ones bits; cells = ones bits } ≡ rowWalk counts bits
-  row-is t =
-      let p : sum - ones bits ≡ sumBelow (λ c. bitAt bits c * countAt counts c) rowCells = omega (arith, keys) in
-      let e = ones-of-row bits small in λ i. record { worst = t i; people = p i; cells = e i }
-
--- a map row with no mark
-module _ (counts : List ℕ) where
-  clear : (c : ℕ) → bitAt 0 c ≡ 0
-  clear c = ap (λ (x : ℕ). x % 2) (zero-div (2 ^ (63 - c)))
-
-  clear-le : (c x : ℕ) → bitAt 0 c * x ≤ 0
-  clear-le c x = rw (clear c) (omega arith)
-
-  pub row-empty : record { worst = 0; people = 0; cells = 0 } ≡ rowWalk counts 0
-  row-empty =
-      let t : 0 ≡ maxBelow (rowKey counts 0) rowCells =
-      omega (arith, max-le (rowKey counts 0) 0 rowCells (λ c l. clear-le c (countAt counts c + 1))) in
-      let p : 0 ≡ sumBelow (λ c. bitAt 0 c * countAt counts c) rowCells =
-      omega (arith, sum-le (λ c. bitAt 0 c * countAt counts c) 0 rowCells (λ c l. clear-le c (countAt counts c))) in
-      let k : 0 ≡ sumBelow (bitAt 0) rowCells =
-      omega (arith, sum-le (bitAt 0) 0 rowCells (λ c l. omega (arith, clear c))) in
-      λ i. record { worst = t i; people = p i; cells = k i }
 
 -- ---- a map row lent as a part of the map's counts
 
@@ -91,30 +56,42 @@ module _ (counts marks : List ℕ) (r : ℕ) where
   pub worst-here : maxBelow (rowKey lent (getD marks r 0)) rowCells ≡ rowWorst counts marks r
   worst-here = max-same (rowKey lent (getD marks r 0)) (λ c. keyAt counts marks (rowCells * r + c)) rowCells key-here
 
-  row-here : rowWalk lent (getD marks r 0) ≡ record {
-    worst = rowWorst counts marks r;
+  row-here : (worst : ℕ) → rowWalk lent (getD marks r 0) worst ≡ record {
+    worst = keyAbove worst (rowWorst counts marks r);
     people = sumBelow (λ c. markAt marks (rowCells * r + c) * countAt counts (rowCells * r + c)) rowCells;
     cells = sumBelow (λ c. markAt marks (rowCells * r + c)) rowCells;
   }
-  row-here =
-      let t = worst-here in
-      let p = sum-same (λ c. bitAt (getD marks r 0) c * countAt lent c) (λ c. markAt marks (rowCells * r + c) * countAt counts (rowCells * r + c)) rowCells
+  row-here worst =
+      let t = ap (keyAbove worst) worst-here in
+      let p = sum-same (markedCount lent (getD marks r 0)) (λ c. markAt marks (rowCells * r + c) * countAt counts (rowCells * r + c)) rowCells
       (λ i l. ap₂ (λ (m x : ℕ). m * x) (mark-here i l) (lent-at i l)) in
       let k = sum-same (bitAt (getD marks r 0)) (λ c. markAt marks (rowCells * r + c)) rowCells mark-here in
       λ i. record { worst = t i; people = p i; cells = k i }
 
   -- ---- the map with one row more
 
-  module _ {w : MapWalk} {b : RowWalk} (before : w ≡ mapWalk counts marks r) (row : b ≡ rowWalk lent (getD marks r 0)) where
+  -- no key so far is above the largest
+  pub worst-small : {w : MapWalk} → w ≡ mapWalk counts marks r → r < mapRows → wrongCount counts ≡ false → w .worst ≤ largestKey
+  worst-small e l h =
+      omega (
+        arith,
+        ap (λ (x : MapWalk). x .worst) e,
+        max-le (keyAt counts marks) largestKey (rowCells * r)
+            (λ i m. key-le (markAt marks i) (countAt counts i) (mark-lt marks i) (counts-small counts h i (omega arith))),
+      )
+
+  module _ {w : MapWalk} {b : RowWalk} (before : w ≡ mapWalk counts marks r) (row : b ≡ rowWalk lent (getD marks r 0) (w .worst)) where
     pub map-next : withRow w b r ≡ mapWalk counts marks (r + 1)
     map-next =
         let e : rowCells * r + rowCells ≡ rowCells * (r + 1) = omega arith in
-        let t = sym (max-add (keyAt counts marks) (rowCells * r) rowCells) ∙ ap (maxBelow (keyAt counts marks)) e in
+        let t = max-above (maxBelow (keyAt counts marks) (rowCells * r)) (rowWorst counts marks r)
+        ∙ sym (max-add (keyAt counts marks) (rowCells * r) rowCells) ∙ ap (maxBelow (keyAt counts marks)) e in
         let p = sym (sum-add (λ p. markAt marks p * countAt counts p) (rowCells * r) rowCells) ∙ ap (sumBelow (λ p. markAt marks p * countAt counts p)) e in
         let k = sym (sum-add (markAt marks) (rowCells * r) rowCells) ∙ ap (sumBelow (markAt marks)) e in
-        let s = ap (λ (x : ℕ). cond (ltb x (rowWorst counts marks r)) r (firstMaxBelow (rowWorst counts marks) r)) (sym (max-rows (keyAt counts marks) rowCells r))
+        let s = ap (λ (t : Bool). cond t r (firstMaxBelow (rowWorst counts marks) r)) (less-above (maxBelow (keyAt counts marks) (rowCells * r)) (rowWorst counts marks r))
+        ∙ ap (λ (x : ℕ). cond (ltb x (rowWorst counts marks r)) r (firstMaxBelow (rowWorst counts marks) r)) (sym (max-rows (keyAt counts marks) rowCells r))
         ∙ sym (first-next (rowWorst counts marks) r) in
-        ap₂ (λ (x : MapWalk) (y : RowWalk). withRow x y r) before (row ∙ row-here) ∙ (λ i. record { worst = t i; row = s i; people = p i; cells = k i })
+        ap₂ (λ (x : MapWalk) (y : RowWalk). withRow x y r) before (row ∙ ap (λ (x : MapWalk). rowWalk lent (getD marks r 0) (x .worst)) before ∙ row-here (maxBelow (keyAt counts marks) (rowCells * r))) ∙ (λ i. record { worst = t i; row = s i; people = p i; cells = k i })
 
     -- the sums fit their types
     pub map-fits : r < mapRows → ((p : ℕ) → countAt counts p < 2 ^ 32) → (w .people + b .people < 2 ^ 64) × (w .cells + b .cells < 2 ^ 32)

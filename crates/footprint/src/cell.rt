@@ -1,7 +1,9 @@
-// One cell: its table row, and the key by which marked cells are compared.
+// One cell: its table row, the key by which marked cells are compared, and its count where it is marked.
 ghost use mathlib.Core.Path.{_≡_};
 ghost use Prim.Native.Nat.{_+_, _*_, _<_, _≤_};
+ghost use lib.ListN.{length};
 ghost use Rattle.footprint.specs.Map.{rowCells, largestCount, bitAt, belowDensity, tableRow};
+ghost use Rattle.footprint.specs.Walk.{Masks, markedCount};
 
 // The square metres of a square kilometre.
 const SQUARE_KILOMETRE: u64 = 1000000;
@@ -46,4 +48,36 @@ pub(crate) fn key(bits: u64, column: usize, count: u32) -> u32
     } else {
         0
     }
+}
+
+// A mask under which a count stays as it is.
+const ALL: u32 = 4294967295;
+
+// For each number of four bits, the masks of four cells: ALL where a cell's bit is set, else 0.
+pub(crate) const MASKS: [[u32; 4]; 16] = [
+    [0, 0, 0, 0],
+    [0, 0, 0, ALL],
+    [0, 0, ALL, 0],
+    [0, 0, ALL, ALL],
+    [0, ALL, 0, 0],
+    [0, ALL, 0, ALL],
+    [0, ALL, ALL, 0],
+    [0, ALL, ALL, ALL],
+    [ALL, 0, 0, 0],
+    [ALL, 0, 0, ALL],
+    [ALL, 0, ALL, 0],
+    [ALL, 0, ALL, ALL],
+    [ALL, ALL, 0, 0],
+    [ALL, ALL, 0, ALL],
+    [ALL, ALL, ALL, 0],
+    [ALL, ALL, ALL, ALL],
+];
+
+// The count of a map row's cell 4 * k + j where it is marked, else 0. Four masks are one vector in memory; four bits would be tested one by one.
+pub(crate) fn marked_count(masks: &[[u32; 4]], counts: &[u32], bits: u64, k: usize, j: usize) -> u32
+    requires { ⌜ Masks (now masks) × (length (now counts) ≡ rowCells) × (k < 16) × (j < 4) ⌝ }
+    ensures { λ r. ⌜ r ≡ markedCount (now (counts .entry)) bits (4 * k + j) ⌝ }
+{
+    let four = ((bits >> (60 - 4 * k)) % 16) as usize;
+    counts[4 * k + j] & masks[four][j]
 }

@@ -1,10 +1,11 @@
 // The footprint on the map: the marked cells' highest table row, first largest count, people and number.
 mod cell;
+mod row;
 mod walk;
 
 use crate::cell::table_row;
+use crate::row::first_worst;
 use crate::walk::MapWalk;
-use crate::walk::first_worst;
 use crate::walk::walk_map;
 ghost use mathlib.Core.Path.{_≡_};
 ghost use mathlib.Core.Bool.{false};

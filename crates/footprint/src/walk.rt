@@ -1,21 +1,15 @@
 // The walk over the map, row by row.
 use crate::MAP_ROWS;
 use crate::ROW_CELLS;
-use crate::cell::key;
+use crate::cell::MASKS;
+use crate::row::RowWalk;
+use crate::row::walk_row;
 ghost use mathlib.Core.Path.{_≡_};
 ghost use mathlib.Core.Bool.{false};
-ghost use Prim.Native.Nat.{ℕ, _+_, _*_, _^_, _<_, _≤_, max};
+ghost use Prim.Native.Nat.{_+_, _^_, _<_};
 ghost use lib.ListN.{length};
-ghost use Rattle.arithmetic.specs.SumsAndMaxima.{maxBelow, firstMaxBelow};
-ghost use Rattle.footprint.specs.Map.{mapCells, mapRows, rowCells, largestCount, countAt, wrongCount};
-ghost use Rattle.footprint.specs.Walk.{largestKey, rowKey, rowWalk, withRow, mapWalk};
-
-// A map row: its largest key, and the people and the number of its marked cells.
-pub(crate) struct RowWalk {
-    pub worst: u32,
-    pub people: u32,
-    pub cells: u32,
-}
+ghost use Rattle.footprint.specs.Map.{mapCells, mapRows, wrongCount};
+ghost use Rattle.footprint.specs.Walk.{withRow, mapWalk};
 
 // The map rows so far, and the first of them with the largest key.
 pub(crate) struct MapWalk {
@@ -23,58 +17,6 @@ pub(crate) struct MapWalk {
     pub row: usize,
     pub people: u64,
     pub cells: u32,
-}
-
-// The larger of two keys. Compared as signed numbers, since the machine has no instruction that compares vectors of unsigned ones.
-fn larger(a: u32, b: u32) -> u32
-    requires { ⌜ (a ≤ largestKey) × (b ≤ largestKey) ⌝ }
-    ensures { λ r. ⌜ r ≡ max a b ⌝ }
-{
-    if (a as i32) < (b as i32) { b } else { a }
-}
-
-// One map row: its 64 counts and its footprint row.
-fn walk_row(counts: &[u32], bits: u64) -> RowWalk
-    requires { ⌜ (length (now counts) ≡ rowCells) × ((i : ℕ) → i < rowCells → countAt (now counts) i ≤ largestCount) ⌝ }
-    ensures { λ r. ⌜ r ≡ rowWalk (now (counts .entry)) bits ⌝ }
-{
-    if bits == 0 {
-        return RowWalk {
-            worst: 0,
-            people: 0,
-            cells: 0,
-        };
-    }
-    let mut worst: u32 = 0;
-    let mut sum: u32 = 0;
-    let mut c: usize = 0;
-    while c < ROW_CELLS {
-        let k = key(bits, c, counts[c]);
-        worst = larger(worst, k);
-        sum += k;
-        c += 1;
-    }
-    let cells = u64::count_ones(bits);
-    RowWalk {
-        worst,
-        people: sum - cells,
-        cells,
-    }
-}
-
-// The first marked cell of a map row with the row's largest key.
-pub(crate) fn first_worst(counts: &[u32], bits: u64, worst: u32) -> usize
-    requires { ⌜ (length (now counts) ≡ rowCells) × ((i : ℕ) → i < rowCells → countAt (now counts) i ≤ largestCount) × (0 < worst) × (worst ≡ maxBelow (rowKey (now counts) bits) rowCells) ⌝ }
-    ensures { λ r. ⌜ r ≡ firstMaxBelow (rowKey (now (counts .entry)) bits) rowCells ⌝ }
-{
-    let mut c: usize = 0;
-    while c < ROW_CELLS {
-        if key(bits, c, counts[c]) == worst {
-            return c;
-        }
-        c += 1;
-    }
-    0
 }
 
 // The rows so far, and the row r.
@@ -111,11 +53,13 @@ pub(crate) fn walk_map(counts: &[u32], marks: &[u64]) -> MapWalk
         people: 0,
         cells: 0,
     };
+    // copied once and lent, since a row that names the table would copy it each time
+    let masks = MASKS;
     let mut r: usize = 0;
     while r < MAP_ROWS {
         let from = ROW_CELLS * r;
         let to = from + ROW_CELLS;
-        w = with_row(w, walk_row(&counts[from..to], marks[r]), r);
+        w = with_row(w, walk_row(&masks, &counts[from..to], marks[r], w.worst), r);
         r += 1;
     }
     w

@@ -5,15 +5,16 @@ use native.Mathlib.Omega.{arith}
 use Rattle.arithmetic.specs.SumsAndMaxima.{sumBelow, maxBelow, firstMaxBelow}
 use Rattle.footprint.specs.Map.{mapRows}
 use Rattle.footprint.specs.Walk.{mapWalk}
+use Rattle.footprint.proofs.CellLaws.{masks-are}
 use Rattle.footprint.proofs.WalkLaws as law
 use Rattle.footprint.proofs.walk.walk_map.Statement.{statement}
 use Rattle.footprint.proofs.walk.walk_map.Tie as tie
 
 abbrev Inv-loop : tie.InvT-loop
-Inv-loop counts marks w₀ r₀ w r = (r ≤ mapRows) × (w ≡ mapWalk counts marks r)
+Inv-loop counts marks w₀ masks r₀ w r = (r ≤ mapRows) × (w ≡ mapWalk counts marks r)
 
 abbrev μ-loop : tie.MeasureT-loop
-μ-loop counts marks w₀ r₀ w r = mapRows - r
+μ-loop counts marks w₀ masks r₀ w r = mapRows - r
 
 loop-holds : tie.Need-loop-holds Inv-loop μ-loop
 unfolding sumBelow maxBelow firstMaxBelow
@@ -24,6 +25,9 @@ mul-from c = omega arith
 
 add-to : tie.Need-add-to Inv-loop μ-loop
 add-to c = omega arith
+
+slice-aggregate-walk-row : tie.Need-slice-aggregate-walk-row Inv-loop μ-loop
+slice-aggregate-walk-row c = refl
 
 mul-walk-row : tie.Need-mul-walk-row Inv-loop μ-loop
 mul-walk-row c = omega arith
@@ -45,16 +49,22 @@ shared-slice-read-walk-row c = omega arith
 
 walk-row-requires : tie.Need-walk-row-requires Inv-loop μ-loop
 walk-row-requires c κs =
-    let start = c .before .before .before .before .before .before in
-    let r = c .before .before .before .loop .r in
-    (law.lent-length (start .args .counts .now) (start .args .marks .now) r (omega arith), law.lent-small (start .args .counts .now) (start .args .marks .now) r (omega arith) (start .pre .2))
+    let start = c .before .before .before .before .before .before .before in
+    let at = c .before .before .before .before .loop in
+    let counts = start .args .counts .now in
+    let marks = start .args .marks .now in (
+      masks-are _ refl refl,
+      law.lent-length counts marks (at .r) (omega arith),
+      law.lent-small counts marks (at .r) (omega arith) (start .pre .2),
+      law.worst-small counts marks (at .r) (at .inv .1) (omega arith) (start .pre .2),
+    )
 
 with-row-requires : tie.Need-with-row-requires Inv-loop μ-loop
 with-row-requires c κs =
-    let start = c .before .before .before .before .before .before .before in
-    let at = c .before .before .before .before .loop in
+    let start = c .before .before .before .before .before .before .before .before in
+    let at = c .before .before .before .before .before .loop in
     law.map-fits (start .args .counts .now) (start .args .marks .now) (at .r) (at .inv .1) (c .walk-row .ensures)
-    (omega arith) (λ p. omega (arith, c .before .before .before .before .before .before .shared-slice-known .given p))
+    (omega arith) (λ p. omega (arith, c .before .before .before .before .before .before .before .shared-slice-known .given p))
 
 add-r : tie.Need-add-r Inv-loop μ-loop
 add-r c = omega arith
@@ -64,8 +74,8 @@ loop-less c = omega arith
 
 loop-again : tie.Need-loop-again Inv-loop μ-loop
 loop-again c =
-    let start = c .before .before .before .before .before .before .before .before in
-    let at = c .before .before .before .before .before .loop in
+    let start = c .before .before .before .before .before .before .before .before .before in
+    let at = c .before .before .before .before .before .before .loop in
     (omega arith, c .with-row .ensures ∙ law.map-next (start .args .counts .now) (start .args .marks .now) (at .r) (at .inv .1) (c .before .walk-row .ensures))
 
 returns : tie.Need-returns Inv-loop μ-loop
@@ -83,6 +93,7 @@ walk-map-spec =
     loop-holds
     mul-from
     add-to
+    slice-aggregate-walk-row
     mul-walk-row
     sub-walk-row
     part-walk-row-start

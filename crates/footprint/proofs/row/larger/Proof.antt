@@ -1,20 +1,13 @@
--- `larger` gives the larger of two keys: below the sign bit a signed comparison is that of the numbers.
-use mathlib.Core.Path.{_≡_, sym, _∙_, ap₂}
+-- `footprint::row::larger` gives the larger of two keys: below the sign bit a signed comparison is that of the numbers.
+use mathlib.Core.Path.{_≡_, sym, _∙_}
 use mathlib.Core.Bool.{true, false}
-use Prim.Native.Nat.{ℕ, _^_, _<_}
 use native.Mathlib.Omega.{arith}
 use borrow.Author.Needs.{needs}
 use borrow.Author.Tests.{ltb-true, ltb-false}
 use lib.Dec.{ltb}
-use lib.Signed.{ltZ}
-use mir.Syntax.{w32}
-use mir.Val.{toZ}
-use mir.ValLaws.{toZ-pos}
-use Rattle.footprint.proofs.walk.larger.Statement.{statement}
-use Rattle.footprint.proofs.walk.larger.Tie as tie
-
-signed-less : (a b : ℕ) → a < 2 ^ 31 → b < 2 ^ 31 → ltZ (toZ w32 a) (toZ w32 b) ≡ ltb a b
-signed-less a b h k = ap₂ ltZ (toZ-pos w32 a h) (toZ-pos w32 b k)
+use Rattle.footprint.proofs.CellLaws.{signed-less}
+use Rattle.footprint.proofs.row.larger.Statement.{statement}
+use Rattle.footprint.proofs.row.larger.Tie as tie
 
 cast-if1 : tie.Need-cast-if1
 cast-if1 c = search needs

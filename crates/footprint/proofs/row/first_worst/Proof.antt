@@ -1,4 +1,4 @@
--- `footprint::walk::first_worst` meets its contract. The loop's invariant: no column passed has the largest key.
+-- `footprint::row::first_worst` meets its contract. The loop's invariant: no column passed has the largest key.
 use mathlib.Core.Path.{_≡_, sym, _∙_}
 use Prim.Native.Nat.{ℕ, _≤_, _<_, _-_}
 use native.Mathlib.Omega.{arith}
@@ -6,8 +6,8 @@ use borrow.Author.Count.{below-more}
 use Rattle.arithmetic.proofs.SumLaws.{first-is, first-found}
 use Rattle.footprint.specs.Map.{rowCells}
 use Rattle.footprint.specs.Walk.{rowKey}
-use Rattle.footprint.proofs.walk.first_worst.Statement.{statement}
-use Rattle.footprint.proofs.walk.first_worst.Tie as tie
+use Rattle.footprint.proofs.row.first_worst.Statement.{statement}
+use Rattle.footprint.proofs.row.first_worst.Tie as tie
 
 abbrev Inv-loop : tie.InvT-loop
 Inv-loop counts bits worst c₀ c = (c ≤ rowCells) × ((k : ℕ) → k < c → rowKey counts bits k ≡ worst → ⊥)
