@@ -37,7 +37,7 @@ pub(crate) fn table_row(people: u32, area: u32) -> u8
     7
 }
 
-// A cell's key: one more than its count where it is marked, else 0. One value then gives sum and maximum with no branch.
+// A cell's key: one more than its count where it is marked, else 0, so that any marked cell is above any other, with no branch.
 pub(crate) fn key(bits: u64, column: usize, count: u32) -> u32
     requires { ⌜ (column < rowCells) × (count ≤ largestCount) ⌝ }
     ensures { λ r. ⌜ r ≡ bitAt bits column * (count + 1) ⌝ }
