@@ -56,7 +56,7 @@ fn sheet_contest(aircraft: Vec<Aircraft>) -> Contest {
             let aircraft = Rc::clone(&aircraft);
             Box::new(move |_| {
                 for a in aircraft.iter() {
-                    let _ = black_box($sheet(black_box(a.dimension), black_box(a.mass), black_box(a.speed)));
+                    black_box(&$sheet(black_box(a.dimension), black_box(a.mass), black_box(a.speed)));
                 }
             })
         }};
@@ -72,7 +72,7 @@ fn footprint_contest(name: &'static str, maps: Vec<Map>) -> Contest {
             let maps = Rc::clone(&maps);
             Box::new(move |_| {
                 for m in maps.iter() {
-                    let _ = black_box($footprint(black_box(&m.counts), black_box(&m.marks), black_box(m.cell_area)));
+                    black_box(&$footprint(black_box(&m.counts), black_box(&m.marks), black_box(m.cell_area)));
                 }
             })
         }};
@@ -90,7 +90,7 @@ fn reading_contest(name: &'static str, texts: &Rc<Vec<Vec<u8>>>) -> Contest {
                 let b = &mut *lent.borrow_mut();
                 for text in texts.iter() {
                     let counts = black_box(lent_counts(&mut b.counts, round));
-                    let _ = black_box($read_case(black_box(text), counts, black_box(&mut b.marks)));
+                    black_box(&$read_case(black_box(text), counts, black_box(&mut b.marks)));
                 }
             })
         }};
@@ -114,7 +114,7 @@ fn case_contest(
                 let b = &mut *lent.borrow_mut();
                 for text in texts.iter() {
                     let counts = black_box(lent_counts(&mut b.counts, round));
-                    let _ = black_box($case(black_box(text), counts, black_box(&mut b.marks), black_box(&mut b.frame)));
+                    black_box(&$case(black_box(text), counts, black_box(&mut b.marks), black_box(&mut b.frame)));
                 }
             })
         }};

@@ -39,7 +39,7 @@ pub struct Footprint {
 }
 
 // A refused footprint: all other numbers zero.
-fn refused(n: u8) -> Footprint
+fn refused_with(n: u8) -> Footprint
     ensures { λ r. ⌜ r ≡ refusedFootprint n ⌝ }
 {
     Footprint {
@@ -88,17 +88,17 @@ pub fn footprint_on_map(counts: &[u32], marks: &[u64], area: u32) -> Footprint
     ensures { λ r. ⌜ r ≡ footprintOf (now (counts .entry)) (now (marks .entry)) area ⌝ }
 {
     if (counts.len() != MAP_CELLS) | (marks.len() != MAP_ROWS) {
-        return refused(5);
+        return refused_with(5);
     }
     if (area < LEAST_AREA) | (LARGEST_AREA < area) {
-        return refused(6);
+        return refused_with(6);
     }
     if wrong_count(counts) {
-        return refused(7);
+        return refused_with(7);
     }
     let w = walk_map(counts, marks);
     if w.cells == 0 {
-        return refused(8);
+        return refused_with(8);
     }
     found(counts, marks, area, w)
 }

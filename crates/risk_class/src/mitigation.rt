@@ -30,7 +30,7 @@ pub struct FinalClass {
     pub class: i8,
 }
 
-fn refused(n: u8) -> FinalClass
+fn refused_with(n: u8) -> FinalClass
     ensures { λ r. ⌜ r ≡ refusedFinal n ⌝ }
 {
     FinalClass {
@@ -102,21 +102,21 @@ pub fn final_class(column: u8, class: u8, word: u16) -> FinalClass
     ensures { λ r. ⌜ r ≡ finalClassOf column class word ⌝ }
 {
     if (column < 1) | (COLUMNS < column) {
-        return refused(9);
+        return refused_with(9);
     }
     if !is_entry(column, class) {
-        return refused(9);
+        return refused_with(9);
     }
     let a = credit(0, word / 4096 % 16);
     let b = credit(1, word / 256 % 16);
     let c = credit(2, word / 16 % 16);
     let m2 = credit(3, word % 16);
     if (a == NOT_OFFERED) | (b == NOT_OFFERED) | (c == NOT_OFFERED) | (m2 == NOT_OFFERED) {
-        return refused(11);
+        return refused_with(11);
     }
     let last = after_m2(after_m1(entry(1, column), class, a + b + c), m2);
     if HIGHEST_FINAL < last {
-        return refused(12);
+        return refused_with(12);
     }
     FinalClass {
         refusal: 0,

@@ -19,43 +19,43 @@ lengths-in c =
 counts-in : (c : tie.Else3) → wrongCount (c .before .before .before .before .before .before .args .counts .now) ≡ false
 counts-in c = sym (c .before .wrong-count .ensures) ∙ c .if3 .left
 
-refused-requires : tie.Need-refused-requires
-refused-requires c κs = search needs
+refused-with-requires : tie.Need-refused-with-requires
+refused-with-requires c κs = search needs
 
 returns : tie.Need-returns
-returns c = c .refused .ensures ∙ answer.refused-length _ _ _ (c .before .if1 .taken)
+returns c = c .refused-with .ensures ∙ answer.refused-length _ _ _ (c .before .if1 .taken)
 
-refused-requires-2 : tie.Need-refused-requires-2
-refused-requires-2 c κs = search needs
+refused-with-requires-2 : tie.Need-refused-with-requires-2
+refused-with-requires-2 c κs = search needs
 
 returns-2 : tie.Need-returns-2
-returns-2 c = c .refused2 .ensures ∙ answer.refused-area _ _ _ (c .before .before .if1 .left) (c .before .if2 .taken)
+returns-2 c = c .refused-with2 .ensures ∙ answer.refused-area _ _ _ (c .before .before .if1 .left) (c .before .if2 .taken)
 
 wrong-count-requires : tie.Need-wrong-count-requires
 wrong-count-requires c κs = lengths-in (c .before) .0
 
-refused-requires-3 : tie.Need-refused-requires-3
-refused-requires-3 c κs = search needs
+refused-with-requires-3 : tie.Need-refused-with-requires-3
+refused-with-requires-3 c κs = search needs
 
 returns-3 : tie.Need-returns-3
 returns-3 c =
     let at = c .before .before .before in
-    c .refused3 .ensures
+    c .refused-with3 .ensures
     ∙ answer.refused-count _ _ _ (at .before .if1 .left) (at .if2 .left) (sym (c .before .before .wrong-count .ensures) ∙ c .before .if3 .taken)
 
 walk-map-requires : tie.Need-walk-map-requires
 walk-map-requires c κs =
     let l = lengths-in (c .before .before .before) in (l .0, l .1, counts-in c)
 
-refused-requires-4 : tie.Need-refused-requires-4
-refused-requires-4 c κs = search needs
+refused-with-requires-4 : tie.Need-refused-with-requires-4
+refused-with-requires-4 c κs = search needs
 
 returns-4 : tie.Need-returns-4
 returns-4 c =
     let walked = c .before .before .before in
     let at = walked .before .before .before in
     let args = at .before .before .before .before .args in
-    c .refused4 .ensures
+    c .refused-with4 .ensures
     ∙ answer.refused-empty _ _ _ (at .before .if1 .left) (at .if2 .left) (counts-in (walked .before)) (eq-eqb _ _ (sym (law.cells-all (args .counts .now) (args .marks .now) (walked .walk-map .ensures)) ∙ c .before .if4 .taken))
 
 found-requires : tie.Need-found-requires
@@ -76,15 +76,15 @@ pub footprint-on-map-spec : {M : Type 1} → statement M
 footprint-on-map-spec =
     tie.close
     (tie.spec
-    refused-requires
+    refused-with-requires
     returns
-    refused-requires-2
+    refused-with-requires-2
     returns-2
     wrong-count-requires
-    refused-requires-3
+    refused-with-requires-3
     returns-3
     walk-map-requires
-    refused-requires-4
+    refused-with-requires-4
     returns-4
     found-requires
     returns-5)

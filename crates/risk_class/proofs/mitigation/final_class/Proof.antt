@@ -58,21 +58,21 @@ above-is c = toZ-ofZ {w = w8} {z = c .after-m2 .result} (record { sfits = c .aft
 
 -- ---- the needs
 
-refused-requires : tie.Need-refused-requires
-refused-requires c κs = search needs
+refused-with-requires : tie.Need-refused-with-requires
+refused-with-requires c κs = search needs
 
 returns : tie.Need-returns
-returns c = c .refused .ensures ∙ law.refused-column _ _ _ (c .before .if1 .taken)
+returns c = c .refused-with .ensures ∙ law.refused-column _ _ _ (c .before .if1 .taken)
 
 is-entry-requires : tie.Need-is-entry-requires
 is-entry-requires c κs = inside 1 5 _ (column-in c)
 
-refused-requires-2 : tie.Need-refused-requires-2
-refused-requires-2 c κs = search needs
+refused-with-requires-2 : tie.Need-refused-with-requires-2
+refused-with-requires-2 c κs = search needs
 
 returns-2 : tie.Need-returns-2
 returns-2 c =
-    c .refused2 .ensures
+    c .refused-with2 .ensures
     ∙ law.refused-entry _ _ _ (column-in (c .before .before .before)) (sym (c .before .before .is-entry .ensures) ∙ not-true _ (c .before .if2 .taken))
 
 credit-requires : tie.Need-credit-requires
@@ -87,13 +87,13 @@ credit-requires-3 c κs = search needs
 credit-requires-4 : tie.Need-credit-requires-4
 credit-requires-4 c κs = search needs
 
-refused-requires-3 : tie.Need-refused-requires-3
-refused-requires-3 c κs = search needs
+refused-with-requires-3 : tie.Need-refused-with-requires-3
+refused-with-requires-3 c κs = search needs
 
 returns-3 : tie.Need-returns-3
 returns-3 c =
     let at = c .before .before in
-    c .refused3 .ensures
+    c .refused-with3 .ensures
     ∙ law.refused-digit _ _ _ (column-in (at .before .before .before .before .before .before)) (entry-in (at .before .before .before .before))
     (law.not-offered-is (at .before .before .before .before .before .before .before .args .word) (at .before .before .before .credit .ensures) (at .before .before .credit2 .ensures) (at .before .credit3 .ensures) (m2-is at) (c .before .if3 .taken))
 
@@ -122,13 +122,13 @@ after-m2-requires c κs =
     let e = entry-row (args .column) (args .class) (entry-in (c .before .before .before .before .before .before .before)) in
     omega (arith, c .after-m1 .ensures, c .before .entry .ensures, f, e .3, class-le (e .0) (args .column) (e .1) (e .2) (i .0) (i .1), m2-is (c .before .before .before), law.credits _ (word-in (c .before .before)))
 
-refused-requires-4 : tie.Need-refused-requires-4
-refused-requires-4 c κs = search needs
+refused-with-requires-4 : tie.Need-refused-with-requires-4
+refused-with-requires-4 c κs = search needs
 
 returns-4 : tie.Need-returns-4
 returns-4 c =
     let at = c .before .before in
-    c .refused4 .ensures
+    c .refused-with4 .ensures
     ∙ law.refused-above _ _ _ (column-in (at .before .before .before .before .before .before .before .before .before .before)) (entry-in (at .before .before .before .before .before .before .before .before)) (word-in (at .before .before .before)) (last-is at) (sym (ap (ltZ (pos 7)) (above-is at)) ∙ c .before .if4 .taken)
 
 returns-5 : tie.Need-returns-5
@@ -141,22 +141,22 @@ pub final-class-spec : {M : Type 1} → statement M
 final-class-spec =
     tie.close
     (tie.spec
-    refused-requires
+    refused-with-requires
     returns
     is-entry-requires
-    refused-requires-2
+    refused-with-requires-2
     returns-2
     credit-requires
     credit-requires-2
     credit-requires-3
     credit-requires-4
-    refused-requires-3
+    refused-with-requires-3
     returns-3
     entry-requires
     add-after-m1
     add-after-m1-2
     after-m1-requires
     after-m2-requires
-    refused-requires-4
+    refused-with-requires-4
     returns-4
     returns-5)
