@@ -15,7 +15,7 @@ use Rattle.arithmetic.specs.SumsAndMaxima.{sumBelow, maxBelow, firstMaxBelow}
 use Rattle.arithmetic.proofs.TestLaws.{not-refused, inside}
 use Rattle.arithmetic.proofs.SumLaws.{sum-same, sum-le, sum-mono, max-mono, le-max, first-lt, first-at, first-before, sum-rows}
 use Rattle.footprint.specs.Map.{mapCells, mapRows, rowCells, largestCount, leastArea, largestArea, countAt, bitAt, markAt, keyAt, tableRow, cellsIn, wrongLength, wrongArea, wrongCount, noMark, footprintRefusal, refusedFootprint, foundFootprint, footprintOf}
-use Rattle.footprint.specs.Promises.{EmptyCell, Refusal, Accepted, Ranges, Worst, SetBits, FootprintPromise, Monotone}
+use Rattle.footprint.specs.Promises.{EmptyCell, FootprintRefusal, AcceptedFootprint, FootprintRanges, WorstCell, SetBits, FootprintPromise, Monotone}
 use Rattle.footprint.specs.declared.Footprint.{Footprint}
 use Rattle.footprint.proofs.CellLaws.{mark-lt, marked-le, ones-of-row, no-key, row-mono, row-ge, row-le, rowOfKey, row-of-largest}
 use Rattle.footprint.proofs.WalkLaws.{counts-small, mark-here}
@@ -58,7 +58,7 @@ module _ (counts marks : List ℕ) (area : ℕ) where
   unfolding footprintRefusal
   refusal-is = answer-refusal
 
-  pub refusal : Refusal counts marks area
+  pub refusal : FootprintRefusal counts marks area
   refusal = record {
     listed = listed-refusal (wrongLength counts marks) (wrongArea area) (wrongCount counts) (noMark marks) refusal-is;
     zeros = λ h. answer-zeros (λ z. h (answer-refusal ∙ z)) ∙ ap refusedFootprint (sym answer-refusal);
@@ -87,7 +87,7 @@ module _ (counts marks : List ℕ) (area : ℕ) (ok : footprintOf counts marks a
   found-is : footprintOf counts marks area ≡ foundFootprint counts marks area
   found-is = answer-found counts marks area (sym (answer-refusal counts marks area) ∙ ok)
 
-  pub accepted : Accepted counts marks area
+  pub accepted : AcceptedFootprint counts marks area
   accepted =
       let l = lengths counts marks (tests .lengths-in) in
       let a = inside leastArea largestArea area (tests .area-in) in
@@ -130,7 +130,7 @@ module _ (counts marks : List ℕ) (area : ℕ) (ok : footprintOf counts marks a
   worst-key : maxBelow (keyAt counts marks) mapCells ≡ countAt counts worst + 1
   worst-key = sym (first-at (keyAt counts marks) mapCells some-key) ∙ marked-key worst worst-marked
 
-  pub worst-cell : Worst counts marks area
+  pub worst-cell : WorstCell counts marks area
   worst-cell =
       let place : footprintOf counts marks area .place ≡ worst = ap (λ (f : Footprint). f .place) found-is in
       record {
@@ -146,7 +146,7 @@ module _ (counts marks : List ℕ) (area : ℕ) (ok : footprintOf counts marks a
 
   -- ---- ranges
 
-  pub ranges : Ranges counts marks area
+  pub ranges : FootprintRanges counts marks area
   ranges =
       let place : footprintOf counts marks area .place ≡ worst = ap (λ (f : Footprint). f .place) found-is in
       let people = ap (λ (f : Footprint). f .people) found-is in

@@ -13,7 +13,7 @@ abbrev pub EmptyCell : Type 0
 EmptyCell = (area : ℕ) → leastArea ≤ area → tableRow 0 area ≡ 2
 
 -- the refusal is 0 or a number of the footprint's list, and where it isn't 0 all other numbers are zero (demand 1)
-pub record Refusal (counts marks : List ℕ) (area : ℕ) : Type 0 where
+pub record FootprintRefusal (counts marks : List ℕ) (area : ℕ) : Type 0 where
   pub listed : (footprintOf counts marks area .refusal ≡ 0)
       ⊎ (footprintOf counts marks area .refusal ≡ 5)
       ⊎ (footprintOf counts marks area .refusal ≡ 6)
@@ -23,7 +23,7 @@ pub record Refusal (counts marks : List ℕ) (area : ℕ) : Type 0 where
       → footprintOf counts marks area ≡ refusedFootprint (footprintOf counts marks area .refusal)
 
 -- what is known of an input that isn't refused
-pub record Accepted (counts marks : List ℕ) (area : ℕ) : Type 0 where
+pub record AcceptedFootprint (counts marks : List ℕ) (area : ℕ) : Type 0 where
   pub counts-length : length counts ≡ mapCells
   pub marks-length : length marks ≡ mapRows
   pub area-ge : leastArea ≤ area
@@ -32,7 +32,7 @@ pub record Accepted (counts marks : List ℕ) (area : ℕ) : Type 0 where
   pub answer : footprintOf counts marks area ≡ foundFootprint counts marks area
 
 -- the ranges of an answer that isn't refused
-pub record Ranges (counts marks : List ℕ) (area : ℕ) : Type 0 where
+pub record FootprintRanges (counts marks : List ℕ) (area : ℕ) : Type 0 where
   pub row-ge : 2 ≤ footprintOf counts marks area .row
   pub row-le : footprintOf counts marks area .row ≤ 7
   pub place-lt : footprintOf counts marks area .place < mapCells
@@ -41,7 +41,7 @@ pub record Ranges (counts marks : List ℕ) (area : ℕ) : Type 0 where
   pub cells-le : footprintOf counts marks area .cells ≤ mapCells
 
 -- the place is "the first marked cell with the largest count", and the highest row among marked cells is that cell's row
-pub record Worst (counts marks : List ℕ) (area : ℕ) : Type 0 where
+pub record WorstCell (counts marks : List ℕ) (area : ℕ) : Type 0 where
   pub marked : markAt marks (footprintOf counts marks area .place) ≡ 1
   pub largest : (p : ℕ) → p < mapCells → markAt marks p ≡ 1
       → countAt counts p ≤ countAt counts (footprintOf counts marks area .place)
@@ -55,10 +55,10 @@ SetBits counts marks area = footprintOf counts marks area .cells ≡ sumBelow (�
 
 -- all of it, of every input
 pub record FootprintPromise (counts marks : List ℕ) (area : ℕ) : Type 0 where
-  pub refusal : Refusal counts marks area
-  pub accepted : footprintOf counts marks area .refusal ≡ 0 → Accepted counts marks area
-  pub ranges : footprintOf counts marks area .refusal ≡ 0 → Ranges counts marks area
-  pub worst : footprintOf counts marks area .refusal ≡ 0 → Worst counts marks area
+  pub refusal : FootprintRefusal counts marks area
+  pub accepted : footprintOf counts marks area .refusal ≡ 0 → AcceptedFootprint counts marks area
+  pub ranges : footprintOf counts marks area .refusal ≡ 0 → FootprintRanges counts marks area
+  pub worst : footprintOf counts marks area .refusal ≡ 0 → WorstCell counts marks area
   pub set-bits : footprintOf counts marks area .refusal ≡ 0 → ((r : ℕ) → r < mapRows → getD marks r 0 < 2 ^ 64)
       → SetBits counts marks area
 

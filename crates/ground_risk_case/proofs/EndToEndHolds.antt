@@ -21,7 +21,7 @@ use Rattle.sheet.proofs.Refusals.{refused-exactly-when, sheet-is-given-or-zero}
 use Rattle.exact_area.specs.ExactArea.{exactArea}
 use Rattle.exact_area.specs.Accuracy.{AreaIsAccurate}
 use Rattle.footprint.specs.declared.Footprint.{Footprint}
-use Rattle.footprint.specs.Promises.{Ranges}
+use Rattle.footprint.specs.Promises.{FootprintRanges}
 use Rattle.footprint.proofs.Promises.{footprint-promise}
 use Rattle.risk_class.proofs.Promises.{intrinsic-promise, final-promise}
 use Rattle.assessment.specs.declared.Assessment.{Assessment}
@@ -71,7 +71,7 @@ module _ (t : List ℕ) (none : assessmentIn t .refusal ≡ 0) where
   demand : Demand3 w m v (countsOf t) (marksOf t) (headOf t .«cell_area») (headOf t .controlled) (headOf t .word)
   demand = demand-3 w m v (parts .sheet-given) (countsOf t) (marksOf t) (headOf t .«cell_area») (headOf t .controlled) (headOf t .word)
 
-  ranges : Ranges (countsOf t) (marksOf t) (headOf t .«cell_area»)
+  ranges : FootprintRanges (countsOf t) (marksOf t) (headOf t .«cell_area»)
   ranges = footprint-promise (countsOf t) (marksOf t) (headOf t .«cell_area») .ranges (parts .footprint-given)
 
   fits : FrameFits (printedFields (assessmentIn t))
