@@ -1,7 +1,7 @@
 -- What the test of the head counts reads off one map row. Only private functions are stated by it.
 use mathlib.Core.Bool.{Bool}
 use mathlib.Core.List.{List}
-use Prim.Native.Nat.{ℕ}
+use Prim.Native.Nat.{ℕ, _+_}
 use lib.Dec.{ltb}
 use Rattle.arithmetic.specs.Tests.{anyBelow}
 use Rattle.arithmetic.specs.BitwiseOr.{orBelow}
@@ -15,6 +15,10 @@ aboveRange counts place = ltb largestCount (countAt counts place)
 abbrev pub wrongRow : List ℕ → Bool
 wrongRow counts = anyBelow (aboveRange counts) rowCells
 
--- the bitwise or of a map row's 64 counts
-abbrev pub rowOr : List ℕ → ℕ
-rowOr counts = orBelow (countAt counts) rowCells
+-- the count at a place, raised
+abbrev pub raised : List ℕ → ℕ → ℕ → ℕ
+raised counts raise place = countAt counts place + raise
+
+-- the bitwise or of a map row's 64 counts, each raised by the same number
+abbrev pub rowOr : List ℕ → ℕ → ℕ
+rowOr counts raise = orBelow (raised counts raise) rowCells

@@ -1,19 +1,20 @@
--- `footprint::counts::row_or` meets its contract. The loop's invariant: the bitwise or of the counts passed.
+-- `footprint::counts::row_or` meets its contract. The loop's invariant: the bitwise or of the counts passed, each raised.
 use mathlib.Core.Path.{_≡_, refl, sym, ap, _∙_}
 use Prim.Native.Nat.{ℕ, _-_, _≤_}
 use native.Mathlib.Omega.{arith}
 use lib.Bits.{bitOr}
 use Rattle.arithmetic.specs.BitwiseOr.{orBelow}
 use Rattle.arithmetic.proofs.OrLaws.{or-next}
-use Rattle.footprint.specs.Map.{rowCells, countAt}
+use Rattle.footprint.specs.Map.{rowCells}
+use Rattle.footprint.specs.Counts.{raised}
 use Rattle.footprint.proofs.counts.row_or.Statement.{statement}
 use Rattle.footprint.proofs.counts.row_or.Tie as tie
 
 abbrev Inv-loop : tie.InvT-loop
-Inv-loop counts all₀ c₀ all c = (c ≤ rowCells) × (all ≡ orBelow (countAt counts) c)
+Inv-loop counts raise all₀ c₀ all c = (c ≤ rowCells) × (all ≡ orBelow (raised counts raise) c)
 
 abbrev μ-loop : tie.MeasureT-loop
-μ-loop counts all₀ c₀ all c = rowCells - c
+μ-loop counts raise all₀ c₀ all c = rowCells - c
 
 loop-holds : tie.Need-loop-holds Inv-loop μ-loop
 unfolding orBelow
@@ -25,6 +26,9 @@ mul-all c = omega arith
 shared-slice-read-all : tie.Need-shared-slice-read-all Inv-loop μ-loop
 shared-slice-read-all c = omega arith
 
+add-all : tie.Need-add-all Inv-loop μ-loop
+add-all c = record { fits = c .before .before .before .pre .1 (c .before .before .loop .c) (omega arith) }
+
 add-c : tie.Need-add-c Inv-loop μ-loop
 add-c c = omega arith
 
@@ -34,13 +38,15 @@ loop-less c = omega arith
 loop-again : tie.Need-loop-again Inv-loop μ-loop
 loop-again c =
     let at = c .before .before .loop in
-    let count = countAt (c .before .before .before .args .counts .now) in
+    let start = c .before .before .before in
+    let count = raised (start .args .counts .now) (start .args .raise) in
     (omega arith, ap (λ (x : ℕ). bitOr x (count (at .c))) (at .inv .1) ∙ sym (or-next count (at .c)))
 
 returns : tie.Need-returns Inv-loop μ-loop
 returns c =
+    let start = c .before .before in
     let past : c .before .loop .c ≡ rowCells = omega arith in
-    c .before .loop .inv .1 ∙ ap (orBelow (countAt (c .before .before .args .counts .now))) past
+    c .before .loop .inv .1 ∙ ap (orBelow (raised (start .args .counts .now) (start .args .raise))) past
 
 pub row-or-spec : {M : Type 1} → statement M
 row-or-spec =
@@ -51,6 +57,7 @@ row-or-spec =
     loop-holds
     mul-all
     shared-slice-read-all
+    add-all
     add-c
     loop-less
     loop-again
