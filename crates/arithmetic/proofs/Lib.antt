@@ -5,3 +5,4 @@ pub mod SumLaws
 pub mod ListLaws
 pub mod PartLaws
 pub mod EachLaws
+pub mod OrLaws

@@ -9,7 +9,7 @@ use native.Mathlib.Omega.{arith}
 use lib.ListN.{length, getD, take, drop, set, length-append, length-drop, length-take, length-set, take-append-drop, drop-of-length-le}
 use lib.Seq.{take-take, take-add, take-at, drop-at, drop-drop, drop-cons, set-at, take-all, take-suc, getD-take, getD-drop, length-take-le}
 use borrow.Rule.Slice.PartMut.{putMid, midOf}
-use Rattle.arithmetic.specs.Lists.{tabulate, joined, stored}
+use Rattle.arithmetic.specs.Lists.{tabulate, joined, part, stored}
 use Rattle.arithmetic.proofs.TestLaws.{lt-or-le}
 use Rattle.arithmetic.proofs.ListLaws.{length-tabulate, length-joined}
 
@@ -51,6 +51,14 @@ module _ (s : List ℕ) (a j k : ℕ) (x y : List ℕ) where
 -- the element i of a part
 pub part-at : (s : List ℕ) (a k : ℕ) (x : List ℕ) (i : ℕ) → i < k → PartIs s a k x → getD x i 0 ≡ getD s (a + i) 0
 part-at s a k x i h p = rw (← (p .is)) (getD-take k (drop a s) i 0 h ∙ getD-drop a s i 0)
+
+-- the slice s[a..a + k]
+module _ (s : List ℕ) (a k : ℕ) where
+  pub slice-length : a + k ≤ length s → length (part s a (a + k)) ≡ k
+  slice-length h = let e : a + k - a ≡ k = omega arith in simp (e, length-take, length-drop) (omega arith)
+
+  pub slice-at : (i : ℕ) → i < k → getD (part s a (a + k)) i 0 ≡ getD s (a + i) 0
+  slice-at i l = getD-take (a + k - a) (drop a s) i 0 (omega arith) ∙ getD-drop a s i 0
 
 -- parts of one width, one after the other
 module _ (f : ℕ → List ℕ) (w : ℕ) (s : List ℕ) (a : ℕ) where

@@ -1,9 +1,9 @@
 -- Laws of tests: two numbers compared, tests joined by "or" and "and", a choice by a test, refusals tested in order, a test at each or at some index.
-use mathlib.Core.Path.{_≡_, refl, sym, ap, _∙_}
+use mathlib.Core.Path.{_≡_, refl, sym, ap, ap₂, _∙_}
 use mathlib.Core.Logic.{_⊎_, inl, inr, ⊎-elim}
-use mathlib.Core.Bool.{Bool, true, false, cond, _||_, _&&_, true≢false, false≢true, or-true}
+use mathlib.Core.Bool.{Bool, true, false, cond, _||_, _&&_, true≢false, false≢true, or-true, or-false, or-assoc}
 use Prim.Native.Nat.{ℕ, zero, suc, _+_, _≤_, _<_}
-use native.Mathlib.Nat.{not-suc-le-zero, eq-or-lt-of-le, le-of-suc-le-suc}
+use native.Mathlib.Nat.{not-suc-le-zero, eq-or-lt-of-le, le-of-suc-le-suc, add-zero, add-suc}
 use native.Mathlib.Numerals.{add-one}
 use native.Mathlib.Omega.{arith}
 use borrow.Author.Tests.{le-ltb, ltb-true, ltb-false, eqb-true}
@@ -105,3 +105,16 @@ module _ (p : ℕ → Bool) where
   none-any zero h = refl
   none-any (suc n) h =
       ap (λ (t : Bool). t || p n) (none-any n (λ i l. h i (omega arith))) ∙ h n (omega arith)
+
+  -- only the tests at 0, .., n - 1 matter
+  pub any-same : (q : ℕ → Bool) (n : ℕ) → ((i : ℕ) → i < n → p i ≡ q i) → anyBelow p n ≡ anyBelow q n
+  unfolding anyBelow
+  any-same q zero h = refl
+  any-same q (suc n) h = ap₂ (λ (x y : Bool). x || y) (any-same q n (λ i l. h i (omega arith))) (h n (omega arith))
+
+  -- the first n, and then m more
+  pub any-add : (n m : ℕ) → anyBelow p (n + m) ≡ (anyBelow p n || anyBelow (λ i. p (n + i)) m)
+  unfolding anyBelow
+  any-add n zero = rw (add-zero n) (sym (or-false (anyBelow p n)))
+  any-add n (suc m) =
+      rw (add-suc n m, any-add n m) (or-assoc (anyBelow p n) (anyBelow (λ i. p (n + i)) m) (p (n + m)))

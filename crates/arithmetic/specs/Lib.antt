@@ -5,3 +5,4 @@ pub mod SumsAndMaxima
 pub mod Lists
 pub mod Each
 pub mod MapSize
+pub mod BitwiseOr

@@ -7,10 +7,11 @@ use native.Mathlib.Nat.{le-trans, le-of-suc-le-suc}
 use native.Mathlib.Omega.{arith}
 use borrow.Author.Tests.{ltb-false}
 use lib.Dec.{ltb}
-use lib.ListN.{length, getD, take, drop, length-take, length-drop}
-use lib.Seq.{getD-take, getD-drop}
+use lib.ListN.{length, getD}
+use Rattle.arithmetic.specs.Lists.{part}
 use Rattle.arithmetic.specs.SumsAndMaxima.{sumBelow, maxBelow, firstMaxBelow}
 use Rattle.arithmetic.proofs.TestLaws.{any-none}
+use Rattle.arithmetic.proofs.PartLaws.{slice-length, slice-at}
 use Rattle.arithmetic.proofs.SumLaws.{sum-same, max-same, first-same, sum-add, max-add, first-next, sum-le, max-le, first-lt, first-at, max-rows, first-rows, firstInRow}
 use Rattle.footprint.specs.Map.{mapCells, mapRows, rowCells, largestCount, countAt, bitAt, markAt, keyAt, tableRow, highestRow, firstLargest, cellsIn, wrongCount, foundFootprint}
 use Rattle.footprint.specs.Walk.{largestKey, rowKey, markedCount, keyAbove, rowWalk, withRow, rowWorst, mapWalk}
@@ -28,16 +29,13 @@ counts-small counts h i l =
 
 module _ (counts marks : List ℕ) (r : ℕ) where
   abbrev pub lent : List ℕ
-  lent = take (rowCells * r + rowCells - rowCells * r) (drop (rowCells * r) counts)
+  lent = part counts (rowCells * r) (rowCells * r + rowCells)
 
   pub lent-at : (i : ℕ) → i < rowCells → countAt lent i ≡ countAt counts (rowCells * r + i)
-  lent-at i l =
-      getD-take (rowCells * r + rowCells - rowCells * r) (drop (rowCells * r) counts) i 0 (omega arith)
-      ∙ getD-drop (rowCells * r) counts i 0
+  lent-at i l = slice-at counts (rowCells * r) rowCells i l
 
   pub lent-length : rowCells * r + rowCells ≤ length counts → length lent ≡ rowCells
-  lent-length h =
-      let k : rowCells * r + rowCells - rowCells * r ≡ rowCells = omega arith in simp (k, length-take, length-drop) (omega arith)
+  lent-length h = slice-length counts (rowCells * r) rowCells h
 
   pub lent-small : r < mapRows → wrongCount counts ≡ false → (i : ℕ) → i < rowCells → countAt lent i ≤ largestCount
   lent-small h s i l = omega (arith, lent-at i l, counts-small counts s (rowCells * r + i) (omega arith))

@@ -1,9 +1,11 @@
 // The footprint on the map: the marked cells' highest table row, first largest count, people and number.
 mod cell;
+mod counts;
 mod row;
 mod walk;
 
 use crate::cell::table_row;
+use crate::counts::wrong_count;
 use crate::row::first_worst;
 use crate::walk::MapWalk;
 use crate::walk::walk_map;
@@ -20,9 +22,6 @@ const MAP_ROWS: usize = arithmetic::MAP_ROWS;
 const ROW_CELLS: usize = arithmetic::MAP_COLUMNS;
 
 const MAP_CELLS: usize = MAP_ROWS * ROW_CELLS;
-
-// The range of a head count ends here; it starts at 0.
-const LARGEST_COUNT: u32 = 1000000;
 
 // The range of the cell area, in square metres.
 const LEAST_AREA: u32 = 100;
@@ -49,20 +48,6 @@ fn refused_with(n: u8) -> Footprint
         people: 0,
         cells: 0,
     }
-}
-
-// Whether any count, marked or not, is above its range. No early exit, so that the loop vectorises.
-fn wrong_count(counts: &[u32]) -> bool
-    requires { ⌜ length (now counts) ≡ mapCells ⌝ }
-    ensures { λ r. ⌜ r ≡ wrongCount (now (counts .entry)) ⌝ }
-{
-    let mut any = false;
-    let mut p: usize = 0;
-    while p < MAP_CELLS {
-        any = any | (LARGEST_COUNT < counts[p]);
-        p += 1;
-    }
-    any
 }
 
 // The answer from a walk over the whole map that met a mark.

@@ -1,0 +1,24 @@
+-- What the test of the head counts reads off one map row. Only private functions are stated by it.
+use mathlib.Core.Bool.{Bool}
+use mathlib.Core.List.{List}
+use Prim.Native.Nat.{ℕ, _+_}
+use lib.Dec.{ltb}
+use Rattle.arithmetic.specs.Tests.{anyBelow}
+use Rattle.arithmetic.specs.BitwiseOr.{orBelow}
+use Rattle.footprint.specs.Map.{rowCells, largestCount, countAt}
+
+-- the count at a place is above its range
+abbrev pub aboveRange : List ℕ → ℕ → Bool
+aboveRange counts place = ltb largestCount (countAt counts place)
+
+-- one of a map row's 64 counts is
+abbrev pub wrongRow : List ℕ → Bool
+wrongRow counts = anyBelow (aboveRange counts) rowCells
+
+-- the count at a place, raised
+abbrev pub raised : List ℕ → ℕ → ℕ → ℕ
+raised counts raise place = countAt counts place + raise
+
+-- the bitwise or of a map row's 64 counts, each raised by the same number
+abbrev pub rowOr : List ℕ → ℕ → ℕ
+rowOr counts raise = orBelow (raised counts raise) rowCells
