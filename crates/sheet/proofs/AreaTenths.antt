@@ -10,7 +10,7 @@ use borrow.Author.Tests.{lt-ltb, le-ltb}
 use Rattle.arithmetic.specs.Rounding.{divUp}
 use Rattle.arithmetic.proofs.RoundingLaws.{scaled-up}
 use Rattle.arithmetic.proofs.TestLaws.{lt-or-le}
-use Rattle.sheet.specs.Lines.{bracket, totalAt, totalOf, glideOnlyAt, formulaOf, areaOf}
+use Rattle.sheet.specs.Lines.{bracket, totalAt, totalOf, glideOnlyAt, wholeAbove, sixTenthsAbove, formulaOf, areaOf}
 use Rattle.sheet.specs.declared.Bracket.{Bracket}
 
 -- so many tenths of a total, in square centimetres
@@ -23,17 +23,17 @@ scaled : (k d low high : ℕ) → 0 < k → 0 < d →
 scaled k d low high h l = ap₂ bracket (mul-div-mul-left low d h) (scaled-up k high d h l)
 
 pub area-in-tenths : (w : ℕ) (glide total : Bracket) →
-    tenthsOf (cond (ltb 8000 w) 10 (cond (ltb 1000 w) 6 5)) (cond (ltb 1000 w) total (totalOf (w + 600) glide glide))
+    tenthsOf (cond (ltb wholeAbove w) 10 (cond (ltb sixTenthsAbove w) 6 5)) (cond (ltb sixTenthsAbove w) total (totalOf (w + 600) glide glide))
     ≡ areaOf (formulaOf w) (w + 600) glide total
 unfolding areaOf totalOf
 area-in-tenths w glide total =
     ⊎-elim
-    (λ (above : 8000 < w). simp (lt-ltb 8000 w above, lt-ltb 1000 w (omega arith)) (scaled 10 100000 (total .low) (total .high) (lit< tt) (lit< tt)))
-    (λ (within : w ≤ 8000). ⊎-elim
-    (λ (above : 1000 < w). simp (le-ltb 8000 w within, lt-ltb 1000 w above) (rw (six (total .low), six (total .high)) (scaled 2 500000 (3 * total .low) (3 * total .high) (lit< tt) (lit< tt))))
-    (λ (small : w ≤ 1000). simp (le-ltb 8000 w within, le-ltb 1000 w small) (rw (twice (w + 600) (glide .low), twice (w + 600) (glide .high)) (scaled 5 200000 _ _ (lit< tt) (lit< tt))))
-    (lt-or-le 1000 w))
-    (lt-or-le 8000 w)
+    (λ (above : wholeAbove < w). simp (lt-ltb wholeAbove w above, lt-ltb sixTenthsAbove w (omega arith)) (scaled 10 100000 (total .low) (total .high) (lit< tt) (lit< tt)))
+    (λ (within : w ≤ wholeAbove). ⊎-elim
+    (λ (above : sixTenthsAbove < w). simp (le-ltb wholeAbove w within, lt-ltb sixTenthsAbove w above) (rw (six (total .low), six (total .high)) (scaled 2 500000 (3 * total .low) (3 * total .high) (lit< tt) (lit< tt))))
+    (λ (small : w ≤ sixTenthsAbove). simp (le-ltb wholeAbove w within, le-ltb sixTenthsAbove w small) (rw (twice (w + 600) (glide .low), twice (w + 600) (glide .high)) (scaled 5 200000 _ _ (lit< tt) (lit< tt))))
+    (lt-or-le sixTenthsAbove w))
+    (lt-or-le wholeAbove w)
   where
     six : (n : ℕ) → 6 * n ≡ 2 * (3 * n)
     six n = omega arith

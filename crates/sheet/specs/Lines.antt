@@ -32,14 +32,21 @@ unfoldable pub totalOf : ℕ → Bracket → Bracket → Bracket
 totalOf a glide slide =
     bracket (totalAt a (glide .low) (slide .low)) (totalAt a (glide .high) (slide .high))
 
--- the three area formulas: the whole one "above 8,000 mm", six tenths of it "above 1,000 mm", "otherwise" glide only
+-- "above 8,000 mm", "above 1,000 mm"
+abbrev pub wholeAbove : ℕ
+wholeAbove = 8000
+
+abbrev pub sixTenthsAbove : ℕ
+sixTenthsAbove = 1000
+
+-- the three area formulas: the whole one above the first dimension, six tenths of it above the second, "otherwise" glide only
 pub data Formula : Type 0 where
   whole : Formula
   sixTenths : Formula
   glideOnly : Formula
 
 abbrev pub formulaOf : ℕ → Formula
-formulaOf w = cond (ltb 8000 w) whole (cond (ltb 1000 w) sixTenths glideOnly)
+formulaOf w = cond (ltb wholeAbove w) whole (cond (ltb sixTenthsAbove w) sixTenths glideOnly)
 
 -- "2 × a × glide + 785 × a × a"
 abbrev pub glideOnlyAt : ℕ → ℕ → ℕ

@@ -6,7 +6,7 @@ ghost use lib.Dec.{ltb};
 ghost use Rattle.arithmetic.specs.Rounding.{divUp};
 ghost use Rattle.sheet.specs.Ranges.{dimensionMax, speedMax};
 ghost use Rattle.sheet.specs.Bounds.{aMax, glideMax, slideMax, totalMax, AtMost};
-ghost use Rattle.sheet.specs.Lines.{bracket, glideOf, runOf, savingOf, slideOf, totalAt, totalOf, formulaOf, areaOf};
+ghost use Rattle.sheet.specs.Lines.{bracket, glideOf, runOf, savingOf, slideOf, totalAt, totalOf, wholeAbove, sixTenthsAbove, formulaOf, areaOf};
 use crate::Bracket;
 use arithmetic::difference_or_zero;
 
@@ -83,7 +83,7 @@ pub(crate) fn total(a: u64, glide: Bracket, slide: Bracket) -> Bracket
 
 // Line 6 is so many tenths of a total over a million: ten where the whole formula is taken, and five, a half, without slide.
 fn area_tenths(dimension: u64) -> u64
-    ensures { λ r. ⌜ r ≡ cond (ltb 8000 dimension) 10 (cond (ltb 1000 dimension) 6 5) ⌝ }
+    ensures { λ r. ⌜ r ≡ cond (ltb wholeAbove dimension) 10 (cond (ltb sixTenthsAbove dimension) 6 5) ⌝ }
     ensures { λ r. ⌜ r ≤ 10 ⌝ }
 {
     if WHOLE_ABOVE < dimension {
@@ -95,7 +95,7 @@ fn area_tenths(dimension: u64) -> u64
 // The total of which these tenths are. With the glide in the slide's place it is the numerator without slide, 2 × a × glide + 785 × a × a.
 fn area_total(dimension: u64, glide: Bracket, line: Bracket) -> Bracket
     requires { ⌜ (dimension ≤ dimensionMax) × AtMost glide glideMax × AtMost line totalMax ⌝ }
-    ensures { λ r. ⌜ r ≡ cond (ltb 1000 dimension) line (totalOf (dimension + 600) glide glide) ⌝ }
+    ensures { λ r. ⌜ r ≡ cond (ltb sixTenthsAbove dimension) line (totalOf (dimension + 600) glide glide) ⌝ }
     ensures { λ r. ⌜ AtMost r totalMax ⌝ }
 {
     if SIX_TENTHS_ABOVE < dimension {
