@@ -6,8 +6,9 @@ use native.Mathlib.Omega.{arith}
 use lib.Bits.{bitAnd, and-block, and-mask, and-zero-r}
 use lib.Dec.{lit<}
 use lib.ListN.{getD, drop}
-use lib.Seq.{getD-drop, getD-take}
+use lib.Seq.{getD-drop}
 use Rattle.arithmetic.specs.Lists.{part}
+use Rattle.arithmetic.proofs.PartLaws.{slice-at}
 use Rattle.hex.specs.Digits.{digitValue, number, field}
 use Rattle.hex.specs.Words.{lanes, wordAt, bytesOf, numberOfWord, numberOfWords, valuesOf, pairsOf}
 use Rattle.hex.proofs.DigitLaws.{digit-below, number-split, field-number}
@@ -138,5 +139,5 @@ words-field s a small =
 pub word-part : (s : List ℕ) (a : ℕ) → wordAt (part s a (a + 4)) 0 ≡ wordAt s a
 word-part s a =
     let here : a + 0 ≡ a = omega arith in
-    let at : (i : ℕ) → i < 4 → getD (part s a (a + 4)) i 0 ≡ getD s (a + i) 0 = λ i l. getD-take (a + 4 - a) (drop a s) i 0 (omega arith) ∙ getD-drop a s i 0 in
+    let at : (i : ℕ) → i < 4 → getD (part s a (a + 4)) i 0 ≡ getD s (a + i) 0 = slice-at s a 4 in
     rw (at 0 (lit< tt), at 1 (lit< tt), at 2 (lit< tt), at 3 (lit< tt), here) refl
