@@ -28,7 +28,8 @@ all: $(LIBRARY) $(PROGRAM)
 $(LIBRARY): $(SOURCES)
 	rt staticlib nuggetbay
 
-$(PROGRAM): $(SOURCES)
+# after the library, so that rt runs once at a time
+$(PROGRAM): $(SOURCES) | $(LIBRARY)
 	rt check case
 
 $(MADE):
