@@ -91,7 +91,7 @@ fn largest_key(counts: &[u32], bits: u64) -> u32
     worst
 }
 
-// A map row after rows whose largest key is `worst`. Its own is looked for only where a marked count says that it is larger.
+// A map row after rows whose largest key is `worst`. Its own is looked for only where a marked count says that it is larger, or where no cell before is marked.
 pub(crate) fn walk_row(masks: &[[u32; 4]], counts: &[u32], bits: u64, worst: u32) -> RowWalk
     requires { ⌜ Masks (now masks) × (length (now counts) ≡ rowCells) × ((i : ℕ) → i < rowCells → countAt (now counts) i ≤ largestCount) × (worst ≤ largestKey) ⌝ }
     ensures { λ r. ⌜ r ≡ rowWalk (now (counts .entry)) bits worst ⌝ }

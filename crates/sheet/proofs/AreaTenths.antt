@@ -1,4 +1,4 @@
--- The three area formulas are tenths of a total over a million.
+-- The three area formulas are tenths of a total over 100,000.
 use mathlib.Core.Path.{_≡_, ap₂, _∙_, sym}
 use mathlib.Core.Bool.{cond}
 use mathlib.Core.Logic.{⊎-elim}
@@ -13,7 +13,7 @@ use Rattle.arithmetic.proofs.TestLaws.{lt-or-le}
 use Rattle.sheet.specs.Lines.{bracket, totalAt, totalOf, glideOnlyAt, wholeAbove, sixTenthsAbove, formulaOf, areaOf}
 use Rattle.sheet.specs.declared.Bracket.{Bracket}
 
--- so many tenths of a total, in square centimetres
+-- so many tenths of a total over 100,000
 abbrev tenthsOf : ℕ → Bracket → Bracket
 tenthsOf tenths total = bracket (tenths * total .low / 1000000) (divUp (tenths * total .high) 1000000)
 

@@ -6,9 +6,11 @@ use Rattle.sheet.specs.declared.Bracket.{Bracket}
 abbrev pub aMax : ℕ
 aMax = dimensionMax + 600
 
+-- the high glide
 abbrev pub glideMax : ℕ
 glideMax = 2570667
 
+-- the high run at the highest speed
 abbrev pub slideMax : ℕ
 slideMax = 3082587895
 

@@ -96,7 +96,7 @@ fn sheet_in_range(dimension: u64, mass: u64, speed: u64) -> SheetAnswer
     if column::LAST_LIMIT < area.high {
         return refused_with(4);
     }
-    let place = column_and_flag(area);
+    let found = column_and_flag(area);
     let sheet = Sheet {
         glide,
         run,
@@ -104,8 +104,8 @@ fn sheet_in_range(dimension: u64, mass: u64, speed: u64) -> SheetAnswer
         slide,
         total,
         area,
-        column: place.column,
-        flag: place.flag,
+        column: found.column,
+        flag: found.flag,
     };
     SheetAnswer { refusal: 0, sheet }
 }

@@ -81,7 +81,7 @@ pub(crate) fn total(a: u64, glide: Bracket, slide: Bracket) -> Bracket
     Bracket { low, high }
 }
 
-// Line 6 is so many tenths of a total over a million: ten where the whole formula is taken, and five, a half, without slide.
+// Line 6 is so many tenths of a total, over 100,000: ten where the whole formula is taken, and five, a half, without slide.
 fn area_tenths(dimension: u64) -> u64
     ensures { λ r. ⌜ r ≡ cond (ltb wholeAbove dimension) 10 (cond (ltb sixTenthsAbove dimension) 6 5) ⌝ }
     ensures { λ r. ⌜ r ≤ 10 ⌝ }
@@ -93,23 +93,23 @@ fn area_tenths(dimension: u64) -> u64
 }
 
 // The total of which these tenths are. With the glide in the slide's place it is the numerator without slide, 2 × a × glide + 785 × a × a.
-fn area_total(dimension: u64, glide: Bracket, line: Bracket) -> Bracket
-    requires { ⌜ (dimension ≤ dimensionMax) × AtMost glide glideMax × AtMost line totalMax ⌝ }
-    ensures { λ r. ⌜ r ≡ cond (ltb sixTenthsAbove dimension) line (totalOf (dimension + 600) glide glide) ⌝ }
+fn area_total(dimension: u64, glide: Bracket, line5: Bracket) -> Bracket
+    requires { ⌜ (dimension ≤ dimensionMax) × AtMost glide glideMax × AtMost line5 totalMax ⌝ }
+    ensures { λ r. ⌜ r ≡ cond (ltb sixTenthsAbove dimension) line5 (totalOf (dimension + 600) glide glide) ⌝ }
     ensures { λ r. ⌜ AtMost r totalMax ⌝ }
 {
     if SIX_TENTHS_ABOVE < dimension {
-        return line;
+        return line5;
     }
     total(dimension + 600, glide, glide)
 }
 
-// The three formulas as one, so that they share two divisions and the dimension chooses numbers, not code.
+// The three formulas as one, so that they share two divisions and the dimension chooses numbers, not code. A tenth over 100,000 is one over a million.
 pub(crate) fn area(dimension: u64, glide: Bracket, total: Bracket) -> Bracket
     requires { ⌜ (dimension ≤ dimensionMax) × AtMost glide glideMax × AtMost total totalMax ⌝ }
     ensures { λ r. ⌜ r ≡ areaOf (formulaOf dimension) (dimension + 600) glide total ⌝ }
 {
     let tenths = area_tenths(dimension);
-    let whole = area_total(dimension, glide, total);
-    rounded(tenths * whole.low, tenths * whole.high, 1_000_000)
+    let taken = area_total(dimension, glide, total);
+    rounded(tenths * taken.low, tenths * taken.high, 1_000_000)
 }
