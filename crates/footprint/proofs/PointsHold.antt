@@ -14,7 +14,7 @@ use lib.Pow.{pow-add, shl-shr, pow-pos}
 use Rattle.arithmetic.specs.Each.{Each}
 use Rattle.arithmetic.proofs.TestLaws.{lt-or-le, none-any}
 use Rattle.arithmetic.proofs.SumLaws.{sum-first, max-first, first-first}
-use Rattle.footprint.specs.Map.{mapCells, largestCount, countAt, bitAt, markAt, keyAt, tableRow, highestRow, firstLargest, peopleIn, cellsIn, wrongLength, wrongCount, noMark}
+use Rattle.footprint.specs.Map.{mapCells, largestCount, countAt, bitAt, markAt, keyAt, peopleAt, tableRow, highestRow, firstLargest, peopleIn, cellsIn, wrongLength, wrongCount, noMark}
 use Rattle.footprint.specs.Points.{rowPoints, RowPointHolds, P16Map, P16Footprint}
 use Rattle.footprint.proofs.AnswerLaws as answer
 
@@ -51,7 +51,7 @@ module _ (counts marks : List ℕ) (m : P16Map counts marks) where
 
   people-is : peopleIn counts marks ≡ 8
   people-is =
-      sum-first (λ p. markAt marks p * countAt counts p) 4095 (λ p l. ap₂ (λ (k x : ℕ). k * x) (other-marks p l) (m .other-counts p))
+      sum-first (peopleAt counts marks) 4095 (λ p l. ap₂ (λ (k x : ℕ). k * x) (other-marks p l) (m .other-counts p))
       ∙ ap₂ (λ (k x : ℕ). k * x) first-mark (m .first-count)
 
   cells-is : cellsIn marks ≡ 1

@@ -14,7 +14,7 @@ use lib.ListN.{getD}
 use Rattle.arithmetic.specs.SumsAndMaxima.{sumBelow, maxBelow, firstMaxBelow}
 use Rattle.arithmetic.proofs.TestLaws.{not-refused, inside}
 use Rattle.arithmetic.proofs.SumLaws.{sum-same, sum-le, sum-mono, max-mono, le-max, first-lt, first-at, first-before, sum-rows}
-use Rattle.footprint.specs.Map.{mapCells, mapRows, rowCells, largestCount, leastArea, largestArea, countAt, bitAt, markAt, keyAt, tableRow, cellsIn, wrongLength, wrongArea, wrongCount, noMark, footprintRefusal, refusedFootprint, foundFootprint, footprintOf}
+use Rattle.footprint.specs.Map.{mapCells, mapRows, rowCells, largestCount, leastArea, largestArea, countAt, bitAt, markAt, keyAt, peopleAt, tableRow, cellsIn, wrongLength, wrongArea, wrongCount, noMark, footprintRefusal, refusedFootprint, foundFootprint, footprintOf}
 use Rattle.footprint.specs.Promises.{EmptyCell, FootprintRefusal, AcceptedFootprint, FootprintRanges, WorstCell, SetBits, FootprintPromise, Monotone}
 use Rattle.footprint.specs.declared.Footprint.{Footprint}
 use Rattle.footprint.proofs.CellLaws.{mark-lt, marked-le, ones-of-row, no-key, row-mono, row-ge, row-le, rowOfKey, row-of-largest}
@@ -155,7 +155,7 @@ module _ (counts marks : List ℕ) (area : ℕ) (ok : footprintOf counts marks a
         row-ge = rw (worst-cell .row) (row-ge area _);
         row-le = rw (worst-cell .row) (row-le area _);
         place-lt = rw place (first-lt (keyAt counts marks) mapCells (omega arith));
-        people-le = rw people (sum-le (λ p. markAt marks p * countAt counts p) largestCount mapCells
+        people-le = rw people (sum-le (peopleAt counts marks) largestCount mapCells
             (λ p l. le-trans (marked-le (markAt marks p) (countAt counts p) (mark-lt marks p)) (counts-small counts (tests .counts-in) p l)));
         cells-ge = rw cells some-cells;
         cells-le = rw cells (omega (arith, sum-le (markAt marks) 1 mapCells (λ p l. le-of-suc-le-suc (mark-lt marks p))));
@@ -191,7 +191,7 @@ monotone counts marks counts′ marks′ area ok ok′ n =
           (max-mono (λ p. markAt marks p * tableRow (countAt counts p) area) (λ p. markAt marks′ p * tableRow (countAt counts′ p) area) mapCells
           (λ p l. mul-le-mul (n .marks-le p l) (row-mono area (countAt counts p) (countAt counts′ p) (n .counts-le p l))));
       people-le = rw (a, a′)
-          (sum-mono (λ p. markAt marks p * countAt counts p) (λ p. markAt marks′ p * countAt counts′ p) mapCells
+          (sum-mono (peopleAt counts marks) (peopleAt counts′ marks′) mapCells
           (λ p l. mul-le-mul (n .marks-le p l) (n .counts-le p l)));
       cells-le = rw (a, a′) (sum-mono (markAt marks) (markAt marks′) mapCells (n .marks-le));
     }

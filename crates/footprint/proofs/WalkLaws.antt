@@ -13,7 +13,7 @@ use Rattle.arithmetic.specs.SumsAndMaxima.{sumBelow, maxBelow, firstMaxBelow}
 use Rattle.arithmetic.proofs.TestLaws.{any-none}
 use Rattle.arithmetic.proofs.PartLaws.{slice-length, slice-at}
 use Rattle.arithmetic.proofs.SumLaws.{sum-same, max-same, first-same, sum-add, max-add, first-next, sum-le, max-le, first-lt, first-at, max-rows, first-rows, firstInRow}
-use Rattle.footprint.specs.Map.{mapCells, mapRows, rowCells, largestCount, countAt, bitAt, markAt, keyAt, tableRow, highestRow, firstLargest, cellsIn, wrongCount, foundFootprint}
+use Rattle.footprint.specs.Map.{mapCells, mapRows, rowCells, largestCount, countAt, bitAt, markAt, keyAt, peopleAt, tableRow, highestRow, firstLargest, cellsIn, wrongCount, foundFootprint}
 use Rattle.footprint.specs.Walk.{largestKey, rowKey, markedCount, keyAbove, rowWalk, withRow, rowWorst, mapWalk}
 use Rattle.footprint.specs.declared.row.RowWalk.{RowWalk}
 use Rattle.footprint.specs.declared.walk.MapWalk.{MapWalk}
@@ -84,7 +84,7 @@ module _ (counts marks : List ℕ) (r : ℕ) where
         let e : rowCells * r + rowCells ≡ rowCells * (r + 1) = omega arith in
         let t = max-above (maxBelow (keyAt counts marks) (rowCells * r)) (rowWorst counts marks r)
         ∙ sym (max-add (keyAt counts marks) (rowCells * r) rowCells) ∙ ap (maxBelow (keyAt counts marks)) e in
-        let p = sym (sum-add (λ p. markAt marks p * countAt counts p) (rowCells * r) rowCells) ∙ ap (sumBelow (λ p. markAt marks p * countAt counts p)) e in
+        let p = sym (sum-add (peopleAt counts marks) (rowCells * r) rowCells) ∙ ap (sumBelow (peopleAt counts marks)) e in
         let k = sym (sum-add (markAt marks) (rowCells * r) rowCells) ∙ ap (sumBelow (markAt marks)) e in
         let s = ap (λ (t : Bool). cond t r (firstMaxBelow (rowWorst counts marks) r)) (less-above (maxBelow (keyAt counts marks) (rowCells * r)) (rowWorst counts marks r))
         ∙ ap (λ (x : ℕ). cond (ltb x (rowWorst counts marks r)) r (firstMaxBelow (rowWorst counts marks) r)) (sym (max-rows (keyAt counts marks) rowCells r))
@@ -94,7 +94,7 @@ module _ (counts marks : List ℕ) (r : ℕ) where
     -- the sums fit their types
     pub map-fits : r < mapRows → ((p : ℕ) → countAt counts p < 2 ^ 32) → (w .people + b .people < 2 ^ 64) × (w .cells + b .cells < 2 ^ 32)
     map-fits l h = (
-      omega (arith, ap (λ (x : MapWalk). x .people) map-next, sum-le (λ p. markAt marks p * countAt counts p) (2 ^ 32) (rowCells * (r + 1)) (λ i m. le-trans (marked-le (markAt marks i) (countAt counts i) (mark-lt marks i)) (omega (arith, h i)))),
+      omega (arith, ap (λ (x : MapWalk). x .people) map-next, sum-le (peopleAt counts marks) (2 ^ 32) (rowCells * (r + 1)) (λ i m. le-trans (marked-le (markAt marks i) (countAt counts i) (mark-lt marks i)) (omega (arith, h i)))),
       omega (arith, ap (λ (x : MapWalk). x .cells) map-next, sum-le (markAt marks) 1 (rowCells * (r + 1)) (λ i m. le-of-suc-le-suc (mark-lt marks i))),
     )
 

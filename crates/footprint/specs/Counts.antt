@@ -2,16 +2,11 @@
 use mathlib.Core.Bool.{Bool}
 use mathlib.Core.List.{List}
 use Prim.Native.Nat.{ℕ, _+_}
-use lib.Dec.{ltb}
 use Rattle.arithmetic.specs.Tests.{anyBelow}
 use Rattle.arithmetic.specs.BitwiseOr.{orBelow}
-use Rattle.footprint.specs.Map.{rowCells, largestCount, countAt}
+use Rattle.footprint.specs.Map.{rowCells, countAt, aboveRange}
 
--- the count at a place is above its range
-abbrev pub aboveRange : List ℕ → ℕ → Bool
-aboveRange counts place = ltb largestCount (countAt counts place)
-
--- one of a map row's 64 counts is
+-- one of a map row's 64 counts is above its range
 abbrev pub wrongRow : List ℕ → Bool
 wrongRow counts = anyBelow (aboveRange counts) rowCells
 

@@ -63,8 +63,11 @@ abbrev pub firstLargest : List ℕ → List ℕ → ℕ
 firstLargest counts marks = firstMaxBelow (keyAt counts marks) mapCells
 
 -- "the sum of people in marked cells", "defined over all 4,096 places"
+abbrev pub peopleAt : List ℕ → List ℕ → ℕ → ℕ
+peopleAt counts marks p = markAt marks p * countAt counts p
+
 abbrev pub peopleIn : List ℕ → List ℕ → ℕ
-peopleIn counts marks = sumBelow (λ p. markAt marks p * countAt counts p) mapCells
+peopleIn counts marks = sumBelow (peopleAt counts marks) mapCells
 
 -- "the number of marked cells", "defined over all 4,096 places"
 abbrev pub cellsIn : List ℕ → ℕ
@@ -79,8 +82,11 @@ abbrev pub wrongArea : ℕ → Bool
 wrongArea area = outside leastArea largestArea area
 
 -- "7 any count, marked or not, above 1,000,000"
+abbrev pub aboveRange : List ℕ → ℕ → Bool
+aboveRange counts place = ltb largestCount (countAt counts place)
+
 abbrev pub wrongCount : List ℕ → Bool
-wrongCount counts = anyBelow (λ p. ltb largestCount (countAt counts p)) mapCells
+wrongCount counts = anyBelow (aboveRange counts) mapCells
 
 -- "8 no bit set"
 abbrev pub noMark : List ℕ → Bool

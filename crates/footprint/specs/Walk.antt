@@ -6,7 +6,7 @@ use Prim.Native.Nat.{ℕ, _+_, _-_, _*_, _/_, _%_, _^_, _<_, max}
 use lib.Dec.{ltb}
 use lib.ListN.{length, getD}
 use Rattle.arithmetic.specs.SumsAndMaxima.{sumBelow, maxBelow, firstMaxBelow}
-use Rattle.footprint.specs.Map.{rowCells, largestCount, countAt, bitAt, markAt, keyAt}
+use Rattle.footprint.specs.Map.{rowCells, largestCount, countAt, bitAt, markAt, keyAt, peopleAt}
 use Rattle.footprint.specs.declared.row.Lane.{Lane}
 use Rattle.footprint.specs.declared.row.RowSum.{RowSum}
 use Rattle.footprint.specs.declared.row.RowWalk.{RowWalk}
@@ -85,6 +85,6 @@ abbrev pub mapWalk : List ℕ → List ℕ → ℕ → MapWalk
 mapWalk counts marks n = record {
   worst = maxBelow (keyAt counts marks) (rowCells * n);
   row = firstMaxBelow (rowWorst counts marks) n;
-  people = sumBelow (λ p. markAt marks p * countAt counts p) (rowCells * n);
+  people = sumBelow (peopleAt counts marks) (rowCells * n);
   cells = sumBelow (markAt marks) (rowCells * n);
 }

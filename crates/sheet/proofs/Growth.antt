@@ -4,7 +4,7 @@ use native.Mathlib.Nat.{mul-le-mul, mul-le-mul-left, mul-le-mul-right, add-le-ad
 use native.Mathlib.Omega.{arith}
 use lib.Dec.{lit<}
 use Rattle.arithmetic.proofs.RoundingLaws.{down-mono, up-mono, down-anti, up-anti}
-use Rattle.sheet.specs.Lines.{Formula, whole, sixTenths, glideOnly, formulaOf, runOf, savingOf, totalAt, totalOf, areaNum, areaDen, areaOf}
+use Rattle.sheet.specs.Lines.{Formula, whole, sixTenths, glideOnly, fullWidth, formulaOf, runOf, savingOf, totalAt, totalOf, areaNum, areaDen, areaOf}
 use Rattle.sheet.specs.Sheet.{linesOf, withLines}
 use Rattle.sheet.specs.Laws.{AreaGrowsWithMassAndSpeed}
 
@@ -43,8 +43,8 @@ area-grows w m m′ v v′ p hm hv =
     in record {
       low =
           down-mono _ _ (areaDen (formulaOf w)) (denominator-pos (formulaOf w))
-          (numerator-grows (formulaOf w) (w + 600) (w + 600) 2570666 _ _ (le-refl _) (omega arith));
+          (numerator-grows (formulaOf w) (fullWidth w) (fullWidth w) 2570666 _ _ (le-refl _) (omega arith));
       high =
           up-mono _ _ (areaDen (formulaOf w)) (denominator-pos (formulaOf w))
-          (numerator-grows (formulaOf w) (w + 600) (w + 600) 2570667 _ _ (le-refl _) (omega arith));
+          (numerator-grows (formulaOf w) (fullWidth w) (fullWidth w) 2570667 _ _ (le-refl _) (omega arith));
     }

@@ -6,7 +6,7 @@ use Rattle.arithmetic.specs.Rounding.{divUp}
 use lib.Dec.{leb}
 use Rattle.sheet.specs.Ranges.{dimensionMax, speedMax}
 use Rattle.sheet.specs.Bounds.{aMax, glideMax, slideMax, totalMax, AtMost}
-use Rattle.sheet.specs.Lines.{glideOf, runOf, savingOf, slideOf, totalAt, totalOf}
+use Rattle.sheet.specs.Lines.{fullWidth, glideOf, runOf, savingOf, slideOf, totalAt, totalOf}
 use Rattle.sheet.specs.Column.{columnOf, columnBy, limits}
 use Rattle.sheet.proofs.FirstInTable.{first-max}
 
@@ -21,11 +21,11 @@ pub total-at-max : (a g s : ℕ) → a ≤ aMax → g ≤ glideMax → s ≤ sli
 total-at-max a g s ha hg hs = omega (arith, mul-le-mul ha (add-le-add hg hs), mul-le-mul ha ha)
 
 pub total-max : (w m v : ℕ) → w ≤ dimensionMax → v ≤ speedMax →
-    AtMost (totalOf (w + 600) glideOf (slideOf (runOf v) (savingOf m))) totalMax
+    AtMost (totalOf (fullWidth w) glideOf (slideOf (runOf v) (savingOf m))) totalMax
 unfolding totalOf
 total-max w m v hw hv = (
-  total-at-max (w + 600) _ _ (omega arith) (omega arith) (slide-max m v hv .0),
-  total-at-max (w + 600) _ _ (omega arith) (omega arith) (slide-max m v hv .1),
+  total-at-max (fullWidth w) _ _ (omega arith) (omega arith) (slide-max m v hv .0),
+  total-at-max (fullWidth w) _ _ (omega arith) (omega arith) (slide-max m v hv .1),
 )
 
 -- there are five columns

@@ -1,14 +1,15 @@
 -- How large the lines get within the aircraft's ranges: what the private functions ask of their arguments, so that every product fits 64 bits.
 use Prim.Native.Nat.{ℕ, _+_, _≤_}
 use Rattle.sheet.specs.Ranges.{dimensionMax}
+use Rattle.sheet.specs.Lines.{fullWidth, glideOf}
 use Rattle.sheet.specs.declared.Bracket.{Bracket}
 
 abbrev pub aMax : ℕ
-aMax = dimensionMax + 600
+aMax = fullWidth dimensionMax
 
 -- the high glide
 abbrev pub glideMax : ℕ
-glideMax = 2570667
+glideMax = glideOf .high
 
 -- the high run at the highest speed
 abbrev pub slideMax : ℕ

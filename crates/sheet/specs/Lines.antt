@@ -1,4 +1,4 @@
--- Lines 1 to 6 of the sheet, "in whole numbers, each low and high. Lengths are micrometres; a is w + 600, in millimetres."
+-- Lines 1 to 6 of the sheet, "in whole numbers, each low and high. Lengths are micrometres"
 use mathlib.Core.Bool.{cond}
 use Prim.Native.Nat.{ℕ, _+_, _-_, _*_, _/_}
 use lib.Dec.{ltb}
@@ -7,6 +7,10 @@ use Rattle.sheet.specs.declared.Bracket.{Bracket}
 
 abbrev pub bracket : ℕ → ℕ → Bracket
 bracket low high = record { low = low; high = high }
+
+-- "a is w + 600, in millimetres": twice D, the dimension and a person's width
+abbrev pub fullWidth : ℕ → ℕ
+fullWidth w = w + 600
 
 -- "1. Glide: low 2,570,666, high 2,570,667."
 abbrev pub glideOf : Bracket

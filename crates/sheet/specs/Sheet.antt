@@ -4,7 +4,7 @@ use Prim.Native.Nat.{ℕ, _+_}
 use lib.Dec.{ltb}
 use Rattle.arithmetic.specs.Tests.{outside}
 use Rattle.sheet.specs.Ranges.{dimensionMin, dimensionMax, massMin, massMax, speedMax}
-use Rattle.sheet.specs.Lines.{bracket, glideOf, runOf, savingOf, slideOf, totalOf, formulaOf, areaOf}
+use Rattle.sheet.specs.Lines.{bracket, fullWidth, glideOf, runOf, savingOf, slideOf, totalOf, formulaOf, areaOf}
 use Rattle.sheet.specs.Column.{lastLimit, columnOf, flagOf}
 use Rattle.sheet.specs.declared.Bracket.{Bracket}
 use Rattle.sheet.specs.declared.Sheet.{Sheet}
@@ -28,8 +28,8 @@ withLines run saving slide total area =
 unfoldable pub linesOf : ℕ → ℕ → ℕ → Sheet
 linesOf w m v =
     let slide = slideOf (runOf v) (savingOf m)
-    in let total = totalOf (w + 600) glideOf slide
-    in withLines (runOf v) (savingOf m) slide total (areaOf (formulaOf w) (w + 600) glideOf total)
+    in let total = totalOf (fullWidth w) glideOf slide
+    in withLines (runOf v) (savingOf m) slide total (areaOf (formulaOf w) (fullWidth w) glideOf total)
 
 -- "a refused sheet is all zeros"
 abbrev pub zeroSheet : Sheet

@@ -8,6 +8,7 @@ mod column;
 mod lines;
 
 use crate::column::column_and_flag;
+use crate::lines::PERSON_WIDTH;
 use crate::lines::area;
 use crate::lines::glide;
 use crate::lines::run;
@@ -91,7 +92,7 @@ fn sheet_in_range(dimension: u64, mass: u64, speed: u64) -> SheetAnswer
     let run = run(speed);
     let saving = saving(mass);
     let slide = slide(run, saving);
-    let total = total(dimension + 600, glide, slide);
+    let total = total(dimension + PERSON_WIDTH, glide, slide);
     let area = area(dimension, glide, total);
     if column::LAST_LIMIT < area.high {
         return refused_with(4);

@@ -1,4 +1,4 @@
-// Lines 1 to 6 of the sheet. `a` is document 01's a, the dimension and 600 mm.
+// Lines 1 to 6 of the sheet. `a` is document 01's a, the full width: the dimension and a person's width.
 ghost use mathlib.Core.Path.{_≡_};
 ghost use mathlib.Core.Bool.{cond};
 ghost use Prim.Native.Nat.{_+_, _/_, _^_, _≤_, _<_};
@@ -6,7 +6,7 @@ ghost use lib.Dec.{ltb};
 ghost use Rattle.arithmetic.specs.Rounding.{divUp};
 ghost use Rattle.sheet.specs.Ranges.{dimensionMax, speedMax};
 ghost use Rattle.sheet.specs.Bounds.{aMax, glideMax, slideMax, totalMax, AtMost};
-ghost use Rattle.sheet.specs.Lines.{bracket, glideOf, runOf, savingOf, slideOf, totalAt, totalOf, wholeAbove, sixTenthsAbove, formulaOf, areaOf};
+ghost use Rattle.sheet.specs.Lines.{bracket, fullWidth, glideOf, runOf, savingOf, slideOf, totalAt, totalOf, wholeAbove, sixTenthsAbove, formulaOf, areaOf};
 use crate::Bracket;
 use arithmetic::difference_or_zero;
 
@@ -14,6 +14,9 @@ use arithmetic::difference_or_zero;
 const WHOLE_ABOVE: u64 = 8_000;
 
 const SIX_TENTHS_ABOVE: u64 = 1_000;
+
+// Twice the radius of a person, in mm.
+pub(crate) const PERSON_WIDTH: u64 = 600;
 
 pub(crate) fn glide() -> Bracket
     ensures { λ r. ⌜ r ≡ glideOf ⌝ }
@@ -95,19 +98,19 @@ fn area_tenths(dimension: u64) -> u64
 // The total of which these tenths are. With the glide in the slide's place it is the numerator without slide, 2 × a × glide + 785 × a × a.
 fn area_total(dimension: u64, glide: Bracket, line5: Bracket) -> Bracket
     requires { ⌜ (dimension ≤ dimensionMax) × AtMost glide glideMax × AtMost line5 totalMax ⌝ }
-    ensures { λ r. ⌜ r ≡ cond (ltb sixTenthsAbove dimension) line5 (totalOf (dimension + 600) glide glide) ⌝ }
+    ensures { λ r. ⌜ r ≡ cond (ltb sixTenthsAbove dimension) line5 (totalOf (fullWidth dimension) glide glide) ⌝ }
     ensures { λ r. ⌜ AtMost r totalMax ⌝ }
 {
     if SIX_TENTHS_ABOVE < dimension {
         return line5;
     }
-    total(dimension + 600, glide, glide)
+    total(dimension + PERSON_WIDTH, glide, glide)
 }
 
 // The three formulas as one, so that they share two divisions and the dimension chooses numbers, not code. A tenth over 100,000 is one over a million.
 pub(crate) fn area(dimension: u64, glide: Bracket, total: Bracket) -> Bracket
     requires { ⌜ (dimension ≤ dimensionMax) × AtMost glide glideMax × AtMost total totalMax ⌝ }
-    ensures { λ r. ⌜ r ≡ areaOf (formulaOf dimension) (dimension + 600) glide total ⌝ }
+    ensures { λ r. ⌜ r ≡ areaOf (formulaOf dimension) (fullWidth dimension) glide total ⌝ }
 {
     let tenths = area_tenths(dimension);
     let taken = area_total(dimension, glide, total);

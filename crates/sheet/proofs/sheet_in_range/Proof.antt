@@ -2,7 +2,7 @@
 use mathlib.Core.Path.{_≡_, _∙_}
 use Prim.Native.Nat.{_+_}
 use native.Mathlib.Omega.{arith}
-use Rattle.sheet.specs.Lines.{glideOf, runOf, savingOf, slideOf, totalOf}
+use Rattle.sheet.specs.Lines.{fullWidth, glideOf, runOf, savingOf, slideOf, totalOf}
 use Rattle.sheet.specs.Sheet.{withLines, linesOf}
 use Rattle.sheet.proofs.LineBounds.{slide-max, total-max}
 use Rattle.sheet.proofs.WaysOut.{area-refused, area-given}
@@ -34,7 +34,7 @@ total-requires c κs =
 area-requires : tie.Need-area-requires
 area-requires c κs =
     let args = c .before .before .before .before .before .args
-    in let e : c .total .result ≡ totalOf (args .dimension + 600) glideOf (slideOf (runOf (args .speed)) (savingOf (args .mass))) = cc
+    in let e : c .total .result ≡ totalOf (fullWidth (args .dimension)) glideOf (slideOf (runOf (args .speed)) (savingOf (args .mass))) = cc
     in rw (e, c .before .before .before .before .glide .ensures) (omega (arith, total-max (args .dimension) (args .mass) (args .speed) (omega arith) (omega arith)))
 
 refused-with-requires : tie.Need-refused-with-requires

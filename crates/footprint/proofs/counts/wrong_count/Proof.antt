@@ -9,8 +9,8 @@ use Rattle.arithmetic.specs.Lists.{part}
 use Rattle.arithmetic.specs.Tests.{anyBelow}
 use Rattle.arithmetic.proofs.TestLaws.{any-same, any-add}
 use Rattle.arithmetic.proofs.PartLaws.{slice-length, slice-at}
-use Rattle.footprint.specs.Map.{mapRows, rowCells, largestCount}
-use Rattle.footprint.specs.Counts.{aboveRange, wrongRow}
+use Rattle.footprint.specs.Map.{mapRows, rowCells, largestCount, aboveRange}
+use Rattle.footprint.specs.Counts.{wrongRow}
 use Rattle.footprint.proofs.counts.wrong_count.Statement.{statement}
 use Rattle.footprint.proofs.counts.wrong_count.Tie as tie
 

@@ -8,8 +8,8 @@ use borrow.Author.Tests.{ltb-false, le-ltb, leb-true, leb-false}
 use lib.Dec.{leb}
 use Rattle.arithmetic.proofs.TestLaws.{any-none, none-any}
 use Rattle.arithmetic.proofs.OrLaws.{le-or, or-below}
-use Rattle.footprint.specs.Map.{rowCells, largestCount, countAt}
-use Rattle.footprint.specs.Counts.{aboveRange, wrongRow, raised, rowOr}
+use Rattle.footprint.specs.Map.{rowCells, largestCount, countAt, aboveRange}
+use Rattle.footprint.specs.Counts.{wrongRow, raised, rowOr}
 use Rattle.footprint.proofs.counts.wrong_row.Statement.{statement}
 use Rattle.footprint.proofs.counts.wrong_row.Tie as tie
 
