@@ -5,6 +5,7 @@ each kind there are, and fails if a promised minimum is missed.
 """
 
 import sys
+from concurrent.futures import ProcessPoolExecutor
 from types import SimpleNamespace
 
 import ground_risk as g
@@ -460,9 +461,14 @@ def printed_line(answer):
     return answer.frame[:41 if answer.refusal == 0 else 3]
 
 
+def line_of_number(number):
+    return printed_line(answer_of(make_case(number)))
+
+
 def print_frames(out):
-    for number in range(CASES):
-        out.write(printed_line(answer_of(make_case(number))))
+    # A case depends on its number alone, so they are worked side by side.
+    with ProcessPoolExecutor() as workers:
+        out.writelines(workers.map(line_of_number, range(CASES), chunksize=50))
 
 
 if __name__ == "__main__":
