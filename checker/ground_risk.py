@@ -408,7 +408,7 @@ def assessment(w, m, v, counts, marks, cell_area, controlled_mark, word):
 # "House text is hexadecimal in lower case, one frame a line, each ended by
 #  byte 10 (decimal)."
 DIGITS = b"0123456789abcdef"
-LINE_END = 10
+LINE_END = bytes([10])
 
 # "Line 1 has 38 digits: dimension 8, mass 8, speed 8, cell area 8, controlled
 #  mark 2, mitigation word 4."
@@ -417,18 +417,6 @@ LINE_1_DIGITS = 38
 #  a count. The whole is 33,959 bytes."
 LINE_LENGTHS = [LINE_1_DIGITS] + [16] * 64 + [512] * 64
 TEXT_LENGTH = 33_959
-
-
-def line_end_places():
-    places = []
-    end = -1
-    for length in LINE_LENGTHS:
-        end = end + length + 1
-        places.append(end)
-    return places
-
-
-LINE_END_PLACES = frozenset(line_end_places())
 
 
 class Fields(NamedTuple):
@@ -450,11 +438,11 @@ class Reading(NamedTuple):
     marks: list
 
 
-def in_its_place(place, byte):
+def is_text(text):
     # "14 a byte that isn't a digit or line end in its place."
-    if place in LINE_END_PLACES:
-        return byte == LINE_END
-    return byte in DIGITS
+    lines = bytes(text).split(LINE_END)
+    return ([len(line) for line in lines] == LINE_LENGTHS + [0]
+            and all(byte in DIGITS for byte in set(b"".join(lines))))
 
 
 def number_of(digits):
@@ -472,9 +460,9 @@ def read_case(text, counts_buffer, marks_buffer):
         return Reading(5, NO_FIELDS, counts_buffer, marks_buffer)
     # "All bytes are tested before any is stored, so a refused reading changes
     #  neither buffer."
-    if not all(in_its_place(place, byte) for place, byte in enumerate(text)):
+    if not is_text(text):
         return Reading(14, NO_FIELDS, counts_buffer, marks_buffer)
-    lines = bytes(text).split(b"\n")
+    lines = bytes(text).split(LINE_END)
     first = lines[0]
     fields = Fields(number_of(first[0:8]), number_of(first[8:16]),
                     number_of(first[16:24]), number_of(first[24:32]),

@@ -93,6 +93,21 @@ def part_of(place):
     return PARTS[0 if place < 39 else 1 if place < 1_127 else 2]
 
 
+# The last byte of each line.
+LINE_END_PLACES = {sum(g.LINE_LENGTHS[:number]) + number - 1
+                   for number in range(1, len(g.LINE_LENGTHS) + 1)}
+
+
+def wrong_bytes(text):
+    """Place, what should stand there and what stands there."""
+    for place, byte in enumerate(text):
+        if place in LINE_END_PLACES:
+            if byte != 10:
+                yield place, "line end", byte
+        elif byte not in g.DIGITS:
+            yield place, "digit", byte
+
+
 def kinds_of(case):
     """The names of all kinds that this case is of."""
     answer = r.answer_of(case)
@@ -111,12 +126,10 @@ def kinds_of(case):
         return names + [f"count buffer length {case.counts_length:,}, refusal 5",
                         f"footprint buffer length {case.footprint_length}, refusal 5"]
     if refusal == 14:
-        for place, byte in enumerate(case.text):
-            if not g.in_its_place(place, byte):
-                wanted = "line end" if place in g.LINE_END_PLACES else "digit"
-                names.append((f"a wrong byte for a {wanted} in {part_of(place)}", byte))
-                if place == 33_958:
-                    names.append(("a wrong byte for the last line end", byte))
+        for place, wanted, byte in wrong_bytes(case.text):
+            names.append((f"a wrong byte for a {wanted} in {part_of(place)}", byte))
+            if place == 33_958:
+                names.append(("a wrong byte for the last line end", byte))
         return names
 
     # From here on the text was read.
@@ -210,9 +223,9 @@ def kinds_table():
         for name in kinds_of(r.make_case(number)):
             found[name] = found.get(name, 0) + 1
     numbers = {name: found.get(name, 0) for name in minimums}
-    for family, wrong_bytes in BYTE_FAMILIES:
+    for family, family_bytes in BYTE_FAMILIES:
         numbers[f"refusal 14, {family}, the rarest byte"] = min(
-            found.get((family, byte), 0) for byte in wrong_bytes)
+            found.get((family, byte), 0) for byte in family_bytes)
     lines = ["| Kind | Promised | Cases |", "|---|---|---|"]
     lines += [f"| {name} | {minimums[name]:,} | {numbers[name]:,} |" for name in minimums]
     lines += [f"| all | {r.CASES:,} | {r.CASES:,} |"]

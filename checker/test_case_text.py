@@ -41,9 +41,7 @@ class ReadingTest(unittest.TestCase):
         self.assertEqual(lines[65], b"00000008" + b"0" * 504)
         self.assertEqual([len(line) for line in lines], [38] + [16] * 64 + [512] * 64 + [0])
         self.assertEqual(sum(length + 1 for length in g.LINE_LENGTHS), g.TEXT_LENGTH)
-        self.assertEqual(len(g.LINE_END_PLACES), 129)
-        self.assertEqual([sorted(g.LINE_END_PLACES)[n] for n in (0, 1, 64, 65, 128)],
-                         [38, 55, 1_126, 1_639, 33_958])
+        self.assertTrue(g.is_text(TEXT))
 
     def test_reads_back(self):
         marks = [(row * 0x9e3779b97f4a7c15) % 2 ** 64 for row in range(64)]
@@ -74,18 +72,19 @@ class ReadingTest(unittest.TestCase):
     def test_wrong_bytes(self):
         for place in (0, 37, 39, 54, 1_111, 1_126 - 1, 1_127, 33_446, 33_957):
             for byte in range(256):
-                if byte not in b"0123456789abcdef":
-                    self.assertEqual(g.in_its_place(place, byte), False)
+                self.assertEqual(g.is_text(changed(place, byte)), byte in b"0123456789abcdef")
             for byte in b"\x00/:@AF`g\xff\n\r G":
                 self.refused(14, changed(place, byte))
         for place in (38, 55, 1_126, 1_639, 33_958):
+            for byte in range(256):
+                self.assertEqual(g.is_text(changed(place, byte)), byte == 10)
             for byte in b"09af\r\x00\xff\x0b ":
                 self.refused(14, changed(place, byte))
 
-    def test_every_place_is_tested(self):
-        for place in range(33_959):
-            self.assertEqual(g.in_its_place(place, 10), place in g.LINE_END_PLACES)
-            self.assertEqual(g.in_its_place(place, 48), place not in g.LINE_END_PLACES)
+    def test_places(self):
+        # Line 1 and the footprint, the last line, and every 23rd place between them.
+        for place in (*range(1_127), *range(1_127, 33_446, 23), *range(33_446, 33_959)):
+            self.assertFalse(g.is_text(changed(place, ord("g"))))
 
 
 class WritingTest(unittest.TestCase):
