@@ -13,7 +13,7 @@ use crate::steps::with_column;
 use crate::steps::with_drawn_place;
 use crate::steps::with_one_cell;
 use arithmetic::difference_or_zero;
-ghost use Prim.Native.Nat.{_<_, _≤_};
+ghost use Prim.Native.Nat.{_<_};
 
 // People per square kilometre from which rows 3 to 7 count.
 const ROW_DENSITIES: [u16; 5] = [5, 50, 500, 5000, 50000];
@@ -22,7 +22,7 @@ const EDGE_COUNTS: [u64; 4] = [999999, 1000000, 1000001, 4294967295];
 
 // In the first fifty cases a cell area in which each density is a whole number of people.
 fn draw_boundary_area(s: u32, i: u64) -> Draw
-    ensures { λ r. ⌜ r .value ≤ 20000000 ⌝ }
+    ensures { λ r. ⌜ r .value < 8589934592 ⌝ }
 {
     if i < 50 {
         let d = below(s, 100);
@@ -37,7 +37,7 @@ fn draw_boundary_area(s: u32, i: u64) -> Draw
 
 // The least number of people in a cell that makes a density.
 fn people_at(density: u16, area: u64) -> u64
-    requires { ⌜ area ≤ 20000000 ⌝ }
+    requires { ⌜ area < 8589934592 ⌝ }
 {
     (density as u64 * area + 999999) / 1000000
 }

@@ -10,57 +10,32 @@ use crate::random::from_to;
 use crate::steps::offered_word;
 use frame::FRAME_LENGTH;
 use hex::LINE_END;
+ghost use Prim.Native.Nat.{_<_};
+ghost use lib.ListN.{length};
 
 const SPREADS: [u64; 7] = [1, 2, 8, 50, 500, 5000, 65536];
 
-fn draw_dimension(s: u32) -> Draw {
-    let c = below(s, 4);
-    if c.value == 0 {
-        from_to(c.next, 50, 1000)
-    } else if c.value == 1 {
-        from_to(c.next, 1001, 8000)
-    } else if c.value == 2 {
-        from_to(c.next, 8001, 20000)
-    } else {
-        from_to(c.next, 20001, 100000)
-    }
-}
+// What the numbers of line 1 are drawn from: the first and the last number of each band.
+const DIMENSION_BANDS: [[u32; 2]; 4] = [[50, 1000], [1001, 8000], [8001, 20000], [20001, 100000]];
 
-fn draw_mass(s: u32) -> Draw {
-    let c = below(s, 4);
-    if c.value == 0 {
-        from_to(c.next, 50, 1000)
-    } else if c.value == 1 {
-        from_to(c.next, 1001, 25000)
-    } else if c.value == 2 {
-        from_to(c.next, 25001, 1000000)
-    } else {
-        from_to(c.next, 1000001, 25000000)
-    }
-}
+const MASS_BANDS: [[u32; 2]; 4] = [
+    [50, 1000],
+    [1001, 25000],
+    [25001, 1000000],
+    [1000001, 25000000],
+];
 
-fn draw_speed(s: u32) -> Draw {
-    let c = below(s, 4);
-    if c.value == 0 {
-        from_to(c.next, 0, 2500)
-    } else if c.value == 1 {
-        from_to(c.next, 2501, 7500)
-    } else if c.value == 2 {
-        from_to(c.next, 7501, 20000)
-    } else {
-        from_to(c.next, 20001, 40000)
-    }
-}
+const SPEED_BANDS: [[u32; 2]; 4] = [[0, 2500], [2501, 7500], [7501, 20000], [20001, 40000]];
 
-fn draw_cell_area(s: u32) -> Draw {
-    let c = below(s, 3);
-    if c.value == 0 {
-        from_to(c.next, 100, 10000)
-    } else if c.value == 1 {
-        from_to(c.next, 10001, 1000000)
-    } else {
-        from_to(c.next, 1000001, 25000000)
-    }
+const CELL_AREA_BANDS: [[u32; 2]; 3] = [[100, 10000], [10001, 1000000], [1000001, 25000000]];
+
+// A number from one of the bands, each as likely as another.
+fn from_bands(s: u32, bands: &[[u32; 2]]) -> Draw
+    requires { ⌜ 0 < length (now bands) ⌝ }
+{
+    let c = below(s, bands.len() as u64);
+    let band = bands[c.value as usize];
+    from_to(c.next, band[0], band[1])
 }
 
 fn draw_mark(s: u32) -> Draw {
@@ -99,10 +74,10 @@ fn draw_spread(s: u32) -> Draw {
 }
 
 pub(crate) fn plain_case(s: u32) -> RandomCase {
-    let dimension = draw_dimension(s);
-    let mass = draw_mass(dimension.next);
-    let speed = draw_speed(mass.next);
-    let cell_area = draw_cell_area(speed.next);
+    let dimension = from_bands(s, &DIMENSION_BANDS);
+    let mass = from_bands(dimension.next, &MASS_BANDS);
+    let speed = from_bands(mass.next, &SPEED_BANDS);
+    let cell_area = from_bands(speed.next, &CELL_AREA_BANDS);
     let mark = draw_mark(cell_area.next);
     let word = draw_word(mark.next);
     let first = below(word.next, ROWS);

@@ -1,5 +1,6 @@
 // The random source. Its state is a number of 32 bits, s.
-ghost use Prim.Native.Nat.{_<_, _≤_};
+use arithmetic::difference_or_zero;
+ghost use Prim.Native.Nat.{_<_};
 
 // A draw, and the state of the source after it.
 pub(crate) struct Draw {
@@ -47,14 +48,13 @@ pub(crate) fn bits_64(s: u32) -> Draw {
 }
 
 // A number from a to b.
-pub(crate) fn from_to(s: u32, a: u64, b: u64) -> Draw
-    requires { ⌜ a ≤ b ⌝ }
-    requires { ⌜ b < 4294967296 ⌝ }
-    ensures { λ r. ⌜ r .value ≤ b ⌝ }
+pub(crate) fn from_to(s: u32, a: u32, b: u32) -> Draw
+    ensures { λ r. ⌜ r .value < 8589934592 ⌝ }
 {
     let bits = bits_32(s);
+    let many = difference_or_zero(b as u64, a as u64) + 1;
     Draw {
-        value: a + bits.value % (b - a + 1),
+        value: a as u64 + bits.value % many,
         next: bits.next,
     }
 }

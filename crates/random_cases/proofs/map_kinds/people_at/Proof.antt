@@ -1,4 +1,4 @@
--- The product fits: a density is below 2^16, and an area at most 20,000,000.
+-- The product fits: a density is below 2^16, and an area below 2^33.
 use native.Mathlib.Nat.{mul-le-mul-left}
 use borrow.Author.Needs.{needs}
 use native.Mathlib.Omega.{arith}
