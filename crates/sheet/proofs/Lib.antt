@@ -3,6 +3,7 @@ pub mod LineBounds
 pub mod CountedColumn
 pub mod AreaTenths
 pub mod WaysOut
+pub mod LinesMade
 pub mod Refusals
 pub mod Growth
 pub mod ColumnLaws

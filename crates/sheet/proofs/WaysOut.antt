@@ -5,10 +5,7 @@ use Prim.Native.Nat.{ℕ, _≤_, _<_}
 use borrow.Author.Tests.{lt-ltb, le-ltb}
 use Rattle.arithmetic.specs.Tests.{outside}
 use Rattle.sheet.specs.Ranges.{dimensionMin, dimensionMax, massMin, massMax, speedMax}
-use Rattle.sheet.specs.Column.{lastLimit}
-use Rattle.sheet.specs.declared.Bracket.{Bracket}
-use Rattle.sheet.specs.declared.Sheet.{Sheet}
-use Rattle.sheet.specs.Sheet.{linesOf, refusedSheet, givenSheet, areaTested, sheetOf}
+use Rattle.sheet.specs.Sheet.{linesOf, refusedSheet, areaTested, sheetOf}
 
 module _ (w m v : ℕ) where
   pub refused-1 : outside dimensionMin dimensionMax w ≡ true → refusedSheet 1 ≡ sheetOf w m v
@@ -28,10 +25,3 @@ module _ (w m v : ℕ) where
       pub in-range : v ≤ speedMax → areaTested (linesOf w m v) ≡ sheetOf w m v
       unfolding sheetOf
       in-range s = simp (d, k, le-ltb _ _ s)
-
--- the area's test
-pub area-refused : (s : Sheet) {area : Bracket} → area ≡ s .area → lastLimit < area .high → refusedSheet 4 ≡ areaTested s
-area-refused s e h = simp (← e, lt-ltb _ _ h)
-
-pub area-given : {s t : Sheet} → s ≡ t → s .area .high ≤ lastLimit → givenSheet s ≡ areaTested t
-area-given e h = simp (← e, le-ltb _ _ h)

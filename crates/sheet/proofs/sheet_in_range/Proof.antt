@@ -1,11 +1,7 @@
 -- `sheet_in_range` gives the sheet of an aircraft within its ranges, or refusal 4.
-use mathlib.Core.Path.{_≡_, _∙_}
-use Prim.Native.Nat.{_+_}
+use mathlib.Core.Path.{_∙_}
 use native.Mathlib.Omega.{arith}
-use Rattle.sheet.specs.Lines.{fullWidth, glideOf, runOf, savingOf, slideOf, totalOf}
-use Rattle.sheet.specs.Sheet.{withLines, linesOf}
-use Rattle.sheet.proofs.LineBounds.{slide-max, total-max}
-use Rattle.sheet.proofs.WaysOut.{area-refused, area-given}
+use Rattle.sheet.proofs.LinesMade.{glide-fits, slide-fits, total-fits, refused-4, given}
 use borrow.Author.Needs.{needs}
 use Rattle.sheet.proofs.sheet_in_range.Statement.{statement}
 use Rattle.sheet.proofs.sheet_in_range.Tie as tie
@@ -27,33 +23,41 @@ add-total c = search needs
 
 total-requires : tie.Need-total-requires
 total-requires c κs =
-    let args = c .before .before .before .before .args
-    in let e : c .slide .result ≡ slideOf (runOf (args .speed)) (savingOf (args .mass)) = cc
-    in rw (e, c .before .before .before .glide .ensures) (omega (arith, slide-max (args .mass) (args .speed) (omega arith)))
+    let args = c .before .before .before .before .args in (
+      omega arith,
+      glide-fits (c .before .before .before .glide .ensures),
+      slide-fits (args .mass) (args .speed) (c .before .before .run .ensures) (c .before .saving .ensures) (c .slide .ensures) (omega arith),
+    )
 
 area-requires : tie.Need-area-requires
 area-requires c κs =
-    let args = c .before .before .before .before .before .args
-    in let e : c .total .result ≡ totalOf (fullWidth (args .dimension)) glideOf (slideOf (runOf (args .speed)) (savingOf (args .mass))) = cc
-    in rw (e, c .before .before .before .before .glide .ensures) (omega (arith, total-max (args .dimension) (args .mass) (args .speed) (omega arith) (omega arith)))
+    let args = c .before .before .before .before .before .args in
+    let glide-is = c .before .before .before .before .glide .ensures in (
+      omega arith,
+      glide-fits glide-is,
+      total-fits (args .mass) (args .speed) (c .before .before .before .run .ensures) (c .before .before .saving .ensures) (c .before .slide .ensures) (args .dimension) glide-is (c .total .ensures) (omega arith) (omega arith),
+    )
 
 refused-with-requires : tie.Need-refused-with-requires
 refused-with-requires c κs = search needs
 
 returns : tie.Need-returns
-unfolding linesOf withLines
 returns c =
-    let args = c .before .before .before .before .before .before .before .before .before .args
-    in c .refused-with .ensures ∙ area-refused (linesOf (args .dimension) (args .mass) (args .speed)) {area = c .before .before .before .area .result} (cc) (c .before .if1 .taken)
+    let at-total = c .before .before .before .before in
+    let at-saving = at-total .before .before in
+    let args = at-saving .before .before .before .args in
+    c .refused-with .ensures
+    ∙ refused-4 (args .mass) (args .speed) (at-saving .before .run .ensures) (at-saving .saving .ensures) (at-total .before .slide .ensures) (args .dimension) (at-saving .before .before .glide .ensures) (at-total .total .ensures) (c .before .before .before .area .ensures) (c .before .if1 .taken)
 
 column-and-flag-requires : tie.Need-column-and-flag-requires
 column-and-flag-requires c κs = c .if1 .left
 
 returns-2 : tie.Need-returns-2
-unfolding linesOf withLines
 returns-2 c =
-    let args = c .before .before .before .before .before .before .before .before .before .args
-    in area-given {t = linesOf (args .dimension) (args .mass) (args .speed)} (cc) (c .before .if1 .left)
+    let at-total = c .before .before .before .before in
+    let at-saving = at-total .before .before in
+    let args = at-saving .before .before .before .args in
+    given (args .mass) (args .speed) (at-saving .before .run .ensures) (at-saving .saving .ensures) (at-total .before .slide .ensures) (args .dimension) (at-saving .before .before .glide .ensures) (at-total .total .ensures) (c .before .before .before .area .ensures) (c .column-and-flag .ensures .0) (c .column-and-flag .ensures .1) (c .before .if1 .left)
 
 pub sheet-in-range-spec : {M : Type 1} → statement M
 sheet-in-range-spec =

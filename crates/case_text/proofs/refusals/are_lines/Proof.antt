@@ -2,7 +2,8 @@
 use borrow.Author.Needs.{needs}
 use native.Mathlib.Omega.{arith}
 use Prim.Native.Nat.{_≤_, _-_, _+_, _*_}
-use mathlib.Core.Path.{_≡_, refl}
+use mathlib.Core.Path.{_≡_, refl, sym, ap₂, _∙_}
+use mathlib.Core.Bool.{Bool, _&&_}
 use lib.ListN.{length}
 use denote.Ref.{now}
 use Rattle.arithmetic.specs.Lists.{every, part}
@@ -59,7 +60,7 @@ loop-again c =
     let at-loop = c .before .before .before in
     let s = now (at-loop .before .before .args .s) in
     let w = at-loop .before .before .args .width in
-    (omega arith, cc (every-one (λ k. isLine (part s (k * w) (k * w + w))) (at-loop .loop .k)))
+    (omega arith, ap₂ (λ (x y : Bool). x && y) (at-loop .loop .inv .1) (c .is-line .ensures) ∙ sym (every-one (λ k. isLine (part s (k * w) (k * w + w))) (at-loop .loop .k)))
 
 returns : tie.Need-returns Inv-loop μ-loop
 returns c = let past : c .before .loop .k ≡ c .before .before .before .args .n = omega arith in rw past at (c .before .loop .inv .1)

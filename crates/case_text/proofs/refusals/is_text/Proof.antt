@@ -1,6 +1,8 @@
 -- `case_text::refusals::is_text` meets its contract.
 use Rattle.case_text.proofs.ReadingLaws.{text-is}
 use denote.Ref.{now}
+use native.Mathlib.Omega.{arith}
+use lib.ListN.{length-take, length-drop}
 use borrow.Author.Needs.{needs}
 use Rattle.case_text.proofs.refusals.is_text.Statement.{statement}
 use Rattle.case_text.proofs.refusals.is_text.Tie as tie
@@ -39,7 +41,7 @@ part-are-lines-end-2 : tie.Need-part-are-lines-end-2
 part-are-lines-end-2 c = search needs
 
 are-lines-requires-2 : tie.Need-are-lines-requires-2
-are-lines-requires-2 c κs = search needs
+are-lines-requires-2 c κs = simp (length-take, length-drop) (omega arith)
 
 returns : tie.Need-returns
 returns c =

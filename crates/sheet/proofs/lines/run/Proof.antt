@@ -22,7 +22,7 @@ rounded-requires c κs = omega (arith, mul-le-mul (c .pre) (c .pre))
 
 returns : tie.Need-returns
 unfolding runOf
-returns c = cc
+returns c = c .rounded .ensures
 
 pub run-spec : {M : Type 1} → statement M
 run-spec = tie.close (tie.spec mul-low mul-low-2 mul-high mul-high-2 rounded-requires returns)

@@ -1,5 +1,6 @@
 -- `total` gives line 5.
-use Rattle.sheet.specs.Lines.{totalOf}
+use mathlib.Core.Path.{ap₂}
+use Rattle.sheet.specs.Lines.{bracket, totalOf}
 use borrow.Author.Needs.{needs}
 use Rattle.sheet.proofs.lines.total.Statement.{statement}
 use Rattle.sheet.proofs.lines.total.Tie as tie
@@ -12,7 +13,7 @@ total-at-requires-2 c κs = search needs
 
 returns : tie.Need-returns
 unfolding totalOf
-returns c = cc
+returns c = ap₂ bracket (c .before .total-at .ensures) (c .total-at2 .ensures)
 
 pub total-spec : {M : Type 1} → statement M
 total-spec = tie.close (tie.spec total-at-requires total-at-requires-2 returns)
