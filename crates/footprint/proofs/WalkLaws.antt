@@ -14,7 +14,7 @@ use Rattle.arithmetic.proofs.TestLaws.{any-none}
 use Rattle.arithmetic.proofs.PartLaws.{slice-length, slice-at}
 use Rattle.arithmetic.proofs.SumLaws.{sum-same, max-same, first-same, sum-add, max-add, first-next, sum-le, max-le, first-lt, first-at, max-rows, first-rows, firstInRow}
 use Rattle.footprint.specs.Map.{mapCells, mapRows, rowCells, largestCount, countAt, bitAt, markAt, keyAt, peopleAt, tableRow, highestRow, firstLargest, cellsIn, wrongCount, foundFootprint}
-use Rattle.footprint.specs.Walk.{largestKey, rowKey, markedCount, keyAbove, rowWalk, withRow, rowWorst, mapWalk}
+use Rattle.footprint.specs.Walk.{keyMax, rowKey, markedCount, keyAbove, rowWalk, withRow, largestKeyIn, mapWalk}
 use Rattle.footprint.specs.declared.row.RowWalk.{RowWalk}
 use Rattle.footprint.specs.declared.walk.MapWalk.{MapWalk}
 use Rattle.footprint.proofs.CellLaws.{mark-lt, marked-le, key-le, no-key, rowOfKey, row-of-largest}
@@ -51,11 +51,11 @@ module _ (counts marks : List ℕ) (r : ℕ) where
   pub first-here : firstMaxBelow (rowKey lent (getD marks r 0)) rowCells ≡ firstMaxBelow (λ c. keyAt counts marks (rowCells * r + c)) rowCells
   first-here = first-same (rowKey lent (getD marks r 0)) (λ c. keyAt counts marks (rowCells * r + c)) rowCells key-here
 
-  pub worst-here : maxBelow (rowKey lent (getD marks r 0)) rowCells ≡ rowWorst counts marks r
+  pub worst-here : maxBelow (rowKey lent (getD marks r 0)) rowCells ≡ largestKeyIn counts marks r
   worst-here = max-same (rowKey lent (getD marks r 0)) (λ c. keyAt counts marks (rowCells * r + c)) rowCells key-here
 
   row-here : (worst : ℕ) → rowWalk lent (getD marks r 0) worst ≡ record {
-    worst = keyAbove worst (rowWorst counts marks r);
+    worst = keyAbove worst (largestKeyIn counts marks r);
     people = sumBelow (λ c. markAt marks (rowCells * r + c) * countAt counts (rowCells * r + c)) rowCells;
     cells = sumBelow (λ c. markAt marks (rowCells * r + c)) rowCells;
   }
@@ -69,12 +69,12 @@ module _ (counts marks : List ℕ) (r : ℕ) where
   -- ---- the map with one row more
 
   -- no key so far is above the largest
-  pub worst-small : {w : MapWalk} → w ≡ mapWalk counts marks r → r < mapRows → wrongCount counts ≡ false → w .worst ≤ largestKey
+  pub worst-small : {w : MapWalk} → w ≡ mapWalk counts marks r → r < mapRows → wrongCount counts ≡ false → w .worst ≤ keyMax
   worst-small e l h =
       omega (
         arith,
         ap (λ (x : MapWalk). x .worst) e,
-        max-le (keyAt counts marks) largestKey (rowCells * r)
+        max-le (keyAt counts marks) keyMax (rowCells * r)
             (λ i m. key-le (markAt marks i) (countAt counts i) (mark-lt marks i) (counts-small counts h i (omega arith))),
       )
 
@@ -82,13 +82,13 @@ module _ (counts marks : List ℕ) (r : ℕ) where
     pub map-next : withRow w b r ≡ mapWalk counts marks (r + 1)
     map-next =
         let e : rowCells * r + rowCells ≡ rowCells * (r + 1) = omega arith in
-        let t = max-above (maxBelow (keyAt counts marks) (rowCells * r)) (rowWorst counts marks r)
+        let t = max-above (maxBelow (keyAt counts marks) (rowCells * r)) (largestKeyIn counts marks r)
         ∙ sym (max-add (keyAt counts marks) (rowCells * r) rowCells) ∙ ap (maxBelow (keyAt counts marks)) e in
         let p = sym (sum-add (peopleAt counts marks) (rowCells * r) rowCells) ∙ ap (sumBelow (peopleAt counts marks)) e in
         let k = sym (sum-add (markAt marks) (rowCells * r) rowCells) ∙ ap (sumBelow (markAt marks)) e in
-        let s = ap (λ (t : Bool). cond t r (firstMaxBelow (rowWorst counts marks) r)) (less-above (maxBelow (keyAt counts marks) (rowCells * r)) (rowWorst counts marks r))
-        ∙ ap (λ (x : ℕ). cond (ltb x (rowWorst counts marks r)) r (firstMaxBelow (rowWorst counts marks) r)) (sym (max-rows (keyAt counts marks) rowCells r))
-        ∙ sym (first-next (rowWorst counts marks) r) in
+        let s = ap (λ (t : Bool). cond t r (firstMaxBelow (largestKeyIn counts marks) r)) (less-above (maxBelow (keyAt counts marks) (rowCells * r)) (largestKeyIn counts marks r))
+        ∙ ap (λ (x : ℕ). cond (ltb x (largestKeyIn counts marks r)) r (firstMaxBelow (largestKeyIn counts marks) r)) (sym (max-rows (keyAt counts marks) rowCells r))
+        ∙ sym (first-next (largestKeyIn counts marks) r) in
         ap₂ (λ (x : MapWalk) (y : RowWalk). withRow x y r) before (row ∙ ap (λ (x : MapWalk). rowWalk lent (getD marks r 0) (x .worst)) before ∙ row-here (maxBelow (keyAt counts marks) (rowCells * r))) ∙ (λ i. record { worst = t i; row = s i; people = p i; cells = k i })
 
     -- the sums fit their types
@@ -105,7 +105,7 @@ module _ (counts marks : List ℕ) {w : MapWalk} (w-is : w ≡ mapWalk counts ma
   cells-all = ap (λ (x : MapWalk). x .cells) w-is
 
   pub row-lt : w .row < mapRows
-  row-lt = omega (arith, ap (λ (x : MapWalk). x .row) w-is, first-lt (rowWorst counts marks) mapRows (omega arith))
+  row-lt = omega (arith, ap (λ (x : MapWalk). x .row) w-is, first-lt (largestKeyIn counts marks) mapRows (omega arith))
 
   module _ (some : 0 < w .cells) where
     pub worst-pos : 0 < w .worst
@@ -132,10 +132,10 @@ module _ (counts marks : List ℕ) {w : MapWalk} (w-is : w ≡ mapWalk counts ma
     -- the first worst row's largest key is the map's
     pub worst-is : w .worst ≡ maxBelow (rowKey (lent counts marks (w .row)) (getD marks (w .row) 0)) rowCells
     worst-is =
-        let all : w .worst ≡ maxBelow (rowWorst counts marks) mapRows =
+        let all : w .worst ≡ maxBelow (largestKeyIn counts marks) mapRows =
         ap (λ (x : MapWalk). x .worst) w-is ∙ sym (max-rows (keyAt counts marks) rowCells mapRows) in
-        all ∙ sym (first-at (rowWorst counts marks) mapRows (omega (arith, worst-pos, all)))
-        ∙ ap (rowWorst counts marks) (sym (ap (λ (x : MapWalk). x .row) w-is))
+        all ∙ sym (first-at (largestKeyIn counts marks) mapRows (omega (arith, worst-pos, all)))
+        ∙ ap (largestKeyIn counts marks) (sym (ap (λ (x : MapWalk). x .row) w-is))
         ∙ sym (worst-here counts marks (w .row))
 
     pub answer : (area : ℕ) {row column : ℕ} → row ≡ tableRow (w .worst - 1) area

@@ -13,8 +13,8 @@ use Rattle.footprint.specs.declared.row.RowWalk.{RowWalk}
 use Rattle.footprint.specs.declared.walk.MapWalk.{MapWalk}
 
 -- no key is larger
-abbrev pub largestKey : ℕ
-largestKey = largestCount + 1
+abbrev pub keyMax : ℕ
+keyMax = largestCount + 1
 
 -- the key of a map row's cell
 abbrev pub rowKey : List ℕ → ℕ → ℕ → ℕ
@@ -77,14 +77,14 @@ withRow w b r = record {
 }
 
 -- the largest key of the map's row r
-abbrev pub rowWorst : List ℕ → List ℕ → ℕ → ℕ
-rowWorst counts marks r = maxBelow (λ c. keyAt counts marks (rowCells * r + c)) rowCells
+abbrev pub largestKeyIn : List ℕ → List ℕ → ℕ → ℕ
+largestKeyIn counts marks r = maxBelow (λ c. keyAt counts marks (rowCells * r + c)) rowCells
 
 -- the first n map rows
 abbrev pub mapWalk : List ℕ → List ℕ → ℕ → MapWalk
 mapWalk counts marks n = record {
   worst = maxBelow (keyAt counts marks) (rowCells * n);
-  row = firstMaxBelow (rowWorst counts marks) n;
+  row = firstMaxBelow (largestKeyIn counts marks) n;
   people = sumBelow (peopleAt counts marks) (rowCells * n);
   cells = sumBelow (markAt marks) (rowCells * n);
 }

@@ -55,10 +55,10 @@ fn found(counts: &[u32], marks: &[u64], area: u32, w: MapWalk) -> Footprint
     requires { ⌜ (length (now counts) ≡ mapCells) × (length (now marks) ≡ mapRows) × (wrongCount (now counts) ≡ false) × (w ≡ mapWalk (now counts) (now marks) mapRows) × (0 < w .cells) ⌝ }
     ensures { λ r. ⌜ r ≡ foundFootprint (now (counts .entry)) (now (marks .entry)) area ⌝ }
 {
-    let row = w.row;
-    let from = ROW_CELLS * row;
+    let r = w.row;
+    let from = ROW_CELLS * r;
     let to = from + ROW_CELLS;
-    let column = first_worst(&counts[from..to], marks[row], w.worst);
+    let column = first_worst(&counts[from..to], marks[r], w.worst);
     Footprint {
         refusal: 0,
         row: table_row(w.worst - 1, area),

@@ -8,7 +8,7 @@ ghost use Prim.Native.Nat.{ℕ, _+_, _^_, _<_, _≤_, max};
 ghost use lib.ListN.{length};
 ghost use Rattle.arithmetic.specs.SumsAndMaxima.{maxBelow, firstMaxBelow};
 ghost use Rattle.footprint.specs.Map.{rowCells, largestCount, countAt};
-ghost use Rattle.footprint.specs.Walk.{Masks, largestKey, rowKey, withCell, rowSum, rowWalk};
+ghost use Rattle.footprint.specs.Walk.{Masks, keyMax, rowKey, withCell, rowSum, rowWalk};
 
 // A step over a map row takes four cells.
 const STEPS: usize = ROW_CELLS / 4;
@@ -34,7 +34,7 @@ struct RowSum {
 
 // The larger of two keys. Compared as signed numbers, since the machine has no instruction that compares vectors of unsigned ones.
 fn larger(a: u32, b: u32) -> u32
-    requires { ⌜ (a ≤ largestKey) × (b ≤ largestKey) ⌝ }
+    requires { ⌜ (a ≤ keyMax) × (b ≤ keyMax) ⌝ }
     ensures { λ r. ⌜ r ≡ max a b ⌝ }
 {
     if (a as i32) < (b as i32) { b } else { a }
@@ -93,7 +93,7 @@ fn largest_key(counts: &[u32], bits: u64) -> u32
 
 // A map row after rows whose largest key is `worst`. Its own is looked for only where a marked count says that it is larger, or where no cell before is marked.
 pub(crate) fn walk_row(masks: &[[u32; 4]], counts: &[u32], bits: u64, worst: u32) -> RowWalk
-    requires { ⌜ Masks (now masks) × (length (now counts) ≡ rowCells) × ((i : ℕ) → i < rowCells → countAt (now counts) i ≤ largestCount) × (worst ≤ largestKey) ⌝ }
+    requires { ⌜ Masks (now masks) × (length (now counts) ≡ rowCells) × ((i : ℕ) → i < rowCells → countAt (now counts) i ≤ largestCount) × (worst ≤ keyMax) ⌝ }
     ensures { λ r. ⌜ r ≡ rowWalk (now (counts .entry)) bits worst ⌝ }
 {
     if bits == 0 {

@@ -5,13 +5,13 @@ use native.Mathlib.Omega.{arith}
 use Rattle.arithmetic.specs.SumsAndMaxima.{maxBelow}
 use Rattle.arithmetic.proofs.SumLaws.{max-next}
 use Rattle.footprint.specs.Map.{rowCells, countAt, bitAt}
-use Rattle.footprint.specs.Walk.{largestKey, rowKey}
+use Rattle.footprint.specs.Walk.{keyMax, rowKey}
 use Rattle.footprint.proofs.CellLaws.{key-le}
 use Rattle.footprint.proofs.row.largest_key.Statement.{statement}
 use Rattle.footprint.proofs.row.largest_key.Tie as tie
 
 abbrev Inv-loop : tie.InvT-loop
-Inv-loop counts bits worst₀ c₀ worst c = (c ≤ rowCells) × (worst ≡ maxBelow (rowKey counts bits) c) × (worst ≤ largestKey)
+Inv-loop counts bits worst₀ c₀ worst c = (c ≤ rowCells) × (worst ≡ maxBelow (rowKey counts bits) c) × (worst ≤ keyMax)
 
 abbrev μ-loop : tie.MeasureT-loop
 μ-loop counts bits worst₀ c₀ worst c = rowCells - c
@@ -29,7 +29,7 @@ shared-slice-read-key c = omega arith
 key-requires : tie.Need-key-requires Inv-loop μ-loop
 key-requires c κs = (omega arith, c .before .before .before .before .pre .1 (c .before .before .loop .c) (omega arith))
 
-small : (c : tie.After-key Inv-loop μ-loop) → c .key .result ≤ largestKey
+small : (c : tie.After-key Inv-loop μ-loop) → c .key .result ≤ keyMax
 small c =
     let at = c .before .before .before .loop in
     let start = c .before .before .before .before .before in
