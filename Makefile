@@ -55,7 +55,7 @@ tools:
 	@for tool in $(CC) cargo python3 valgrind; do \
 	    command -v $$tool >/dev/null || { echo "test-boundary: FAILED: $$tool is needed and isn't there"; exit 1; }; done
 
-$(CALLS): console/tests/boundary_calls.py checker/ground_risk.py checker/random_cases.py | $(MADE)
+$(CALLS): console/tests/boundary_calls.py checker/ground_risk.py checker/random_cases.py checker/flagged_aircraft.py | $(MADE)
 	python3 console/tests/boundary_calls.py $@
 
 $(MADE)/boundary: console/tests/boundary.c $(HEADER) $(LIBRARY) | $(MADE)
@@ -73,10 +73,11 @@ test-valgrind: tools $(MADE)/boundary $(CALLS)
 
 # each fault must be noticed: by the comparison or the unreadable memory, and reading what isn't initialised by valgrind
 test-faults: tools $(MADE)/boundary-faults $(CALLS)
+	@$(MADE)/boundary-faults $(CALLS) >/dev/null || { echo 'test-faults: it fails without a fault'; exit 1; }
 	@for fault in $(FAULTS); do \
 	    if FAULT=$$fault $(MADE)/boundary-faults $(CALLS) >/dev/null 2>&1; then echo "test-faults: fault $$fault wasn't noticed"; exit 1; fi; done
-	@if FAULT=u valgrind --quiet --error-exitcode=9 --exit-on-first-error=yes --leak-check=no $(MADE)/boundary-faults --heap $(CALLS) >/dev/null 2>&1; \
-	    then echo "test-faults: fault u wasn't noticed"; exit 1; fi
+	@FAULT=u valgrind --quiet --error-exitcode=9 --exit-on-first-error=yes --leak-check=no $(MADE)/boundary-faults --heap $(CALLS) >/dev/null 2>&1; \
+	    [ $$? -eq 9 ] || { echo "test-faults: fault u wasn't noticed"; exit 1; }
 	@echo 'every fault was noticed: $(FAULTS) u'
 
 # no contract can say what a program reads and writes: inputs that end early or late, held to the checker

@@ -466,8 +466,14 @@ def line_of_number(number):
 
 
 def print_frames(out):
-    # A case depends on its number alone, so they are worked side by side.
-    with ProcessPoolExecutor() as workers:
+    # A case depends on its number alone, so they are worked side by side
+    # where the machine has semaphores for that.
+    try:
+        workers = ProcessPoolExecutor()
+    except OSError:
+        out.writelines(map(line_of_number, range(CASES)))
+        return
+    with workers:
         out.writelines(workers.map(line_of_number, range(CASES), chunksize=50))
 
 

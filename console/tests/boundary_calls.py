@@ -168,13 +168,24 @@ def frames():
     return out
 
 
+def write_calls(out, each):
+    """Every part's calls in order; `each` is map, or a pool's imap."""
+    for records in each(random_case, CASES):
+        out.write(records)
+    for records in each(call, (lengths, classes, frames)):
+        out.write(records)
+    out.write(b"E")
+
+
 def main():
-    with open(sys.argv[1], "wb") as out, Pool() as pool:
-        for records in pool.imap(random_case, CASES, chunksize=20):
-            out.write(records)
-        for records in pool.imap(call, (lengths, classes, frames)):
-            out.write(records)
-        out.write(b"E")
+    with open(sys.argv[1], "wb") as out:
+        try:
+            pool = Pool()
+        except OSError:  # no semaphores here
+            write_calls(out, map)
+            return
+        with pool:
+            write_calls(out, lambda work, parts: pool.imap(work, parts, chunksize=20))
 
 
 def call(part):

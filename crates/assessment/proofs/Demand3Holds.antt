@@ -16,11 +16,8 @@ pub demand-3 : Demand3Holds
 demand-3 w m v accepted counts marks area controlled word =
     record {
       accuracy = sheet-is-accurate w m v .area accepted;
-      exact-column = columns .exact-in-table;
-      flag-zero-or-one = columns .flag-zero-or-one;
-      unflagged-column = columns .unflagged;
+      columns = columns;
       unflagged-working = λ e. same (columns .unflagged e);
-      flagged-column = columns .flagged;
       flagged-working = λ e. lower-column (sheetOf w m v .sheet .column) (exactColumn w m v) (columns .exact-in-table .0) (not-above (columns .flagged e)) controlled word (footprintOf counts marks area);
     }
   where

@@ -2,14 +2,13 @@
 -- 7 cm² apart (2 up to 8 m); unflagged, the sheet's column is the exact one, and so are both classes and the refusal; flagged, the sheet's column is the
 -- exact one or the next higher, and each class that it gives, the exact column gives too, the same or lower."
 use mathlib.Core.Path.{_≡_}
-use mathlib.Core.Logic.{_⊎_}
 use mathlib.Core.List.{List}
-use Prim.Native.Nat.{ℕ, _+_, _≤_}
+use Prim.Native.Nat.{ℕ, _≤_}
 use lib.IntN.{ℤ}
 use lib.Signed.{_≤ℤ_}
 use Rattle.sheet.specs.Sheet.{sheetOf}
 use Rattle.exact_area.specs.ExactArea.{exactColumn}
-use Rattle.exact_area.specs.Accuracy.{AreaIsAccurate}
+use Rattle.exact_area.specs.Accuracy.{AreaIsAccurate, ColumnIsAccurate}
 use Rattle.assessment.specs.Working.{given, Working, workingAt}
 
 -- "unflagged, the sheet's column is the exact one, and so are both classes and the refusal"
@@ -25,15 +24,10 @@ pub record SameOrLower (sheet exact : Working) : Type 0 where
 
 pub record Demand3 (w m v : ℕ) (counts marks : List ℕ) (area controlled word : ℕ) : Type 0 where
   pub accuracy : AreaIsAccurate w m v (sheetOf w m v .sheet)
-  pub exact-column : (1 ≤ exactColumn w m v) × (exactColumn w m v ≤ 5)
-  pub flag-zero-or-one : sheetOf w m v .sheet .flag ≤ 1
-  pub unflagged-column : sheetOf w m v .sheet .flag ≡ 0 → exactColumn w m v ≡ sheetOf w m v .sheet .column
+  pub columns : ColumnIsAccurate w m v (sheetOf w m v .sheet)
   pub unflagged-working :
       sheetOf w m v .sheet .flag ≡ 0 →
       SameWorking (workingAt (sheetOf w m v .sheet .column) counts marks area controlled word) (workingAt (exactColumn w m v) counts marks area controlled word)
-  pub flagged-column :
-      sheetOf w m v .sheet .flag ≡ 1 →
-      (exactColumn w m v ≡ sheetOf w m v .sheet .column) ⊎ (exactColumn w m v + 1 ≡ sheetOf w m v .sheet .column)
   pub flagged-working :
       sheetOf w m v .sheet .flag ≡ 1 →
       SameOrLower (workingAt (sheetOf w m v .sheet .column) counts marks area controlled word) (workingAt (exactColumn w m v) counts marks area controlled word)

@@ -77,7 +77,7 @@ pub record ReadingPromise (text counts marks : List ℕ) (r : Reading) (counts-a
   pub counts-left : counts-after ≡ leftIn (readingRefusal text (length counts) (length marks)) (countsOf text) counts
   pub marks-left : marks-after ≡ leftIn (readingRefusal text (length counts) (length marks)) (marksOf text) marks
 
--- what follows of a refused reading: one of three numbers, nothing but zeros, and both buffers as before
+-- what a reading answers: 0 or one of three numbers; where it is refused, nothing but zeros, and both buffers as before
 pub record RefusedReading (counts marks : List ℕ) (r : Reading) (counts-after marks-after : List ℕ) : Type 0 where
   pub number : (r .refusal ≡ 0) ⊎ ((r .refusal ≡ 13) ⊎ ((r .refusal ≡ 5) ⊎ (r .refusal ≡ 14)))
   pub zeros : (r .refusal ≡ 0 → ⊥) → r .head ≡ noHead

@@ -57,7 +57,7 @@ fn class_byte(c: i8) -> u8
     if c < 0 { 255 } else { c as u8 }
 }
 
-// The first five fields: 00, both areas, column and flag. Five parts are what one function lends at most.
+// The first five fields: 00, both areas, column and flag. Five parts a function keep its proof small.
 fn write_sheet_fields(buffer: &mut [u8], f: FrameFields)
     requires { ⌜ frameLength ≤ length (now buffer) ⌝ }
     ensures { λ _. ⌜ now (buffer .exit) ≡ stored 0 (written (take 5 (frameFields f))) (now (buffer .entry)) ⌝ }

@@ -82,7 +82,7 @@ module _ (t : List ℕ) (none : assessmentIn t .refusal ≡ 0) where
         low = rw (parts .sheet) (omega arith);
         high = rw (parts .sheet) (omega arith);
         column = rw (parts .sheet) (omega arith);
-        flag = rw (parts .sheet) (omega (arith, demand .flag-zero-or-one));
+        flag = rw (parts .sheet) (omega (arith, demand .columns .flag-zero-or-one));
         row-used = rw (parts .row-used) (omega (arith, cond-le (eqb (headOf t .controlled) 1) {a = 1} {b = footprintIn t .row} {k = 7} (omega arith) (ranges .row-le)));
         place = rw (parts .footprint) (omega (arith, ranges .place-lt));
         people = rw (parts .footprint) (omega (arith, ranges .people-le));
@@ -110,10 +110,10 @@ module _ (t : List ℕ) (none : assessmentIn t .refusal ≡ 0) where
         people = ap (λ (f : Footprint). f .people) (parts .footprint);
         classes = shown;
         accuracy = demand .accuracy;
-        flag-zero-or-one = rw (parts .sheet) (demand .flag-zero-or-one);
-        unflagged-column = λ e. rw (parts .sheet) (demand .unflagged-column (flag-is e));
-        flagged-column = λ e. rw (parts .sheet) (demand .flagged-column (flag-is e));
-        unflagged = λ e. same (demand .unflagged-column (flag-is e));
+        flag-zero-or-one = rw (parts .sheet) (demand .columns .flag-zero-or-one);
+        unflagged-column = λ e. rw (parts .sheet) (demand .columns .unflagged (flag-is e));
+        flagged-column = λ e. rw (parts .sheet) (demand .columns .flagged (flag-is e));
+        unflagged = λ e. same (demand .columns .unflagged (flag-is e));
         flagged = λ e. not-higher (flag-is e);
       }
     where

@@ -11,7 +11,7 @@ fn digit_of(n: u64) -> u8
     if n < 10 { 48 + n as u8 } else { 87 + n as u8 }
 }
 
-// A number written into the part for one field, in as many digits as it has bytes, the last digit first.
+// A number written into the part for one field, in as many digits as it has bytes. The loop goes from the last digit to the first.
 pub fn write_digits(part: &mut [u8], n: u64)
     ensures { λ _. ⌜ now (part .exit) ≡ digits (length (now (part .entry))) n ⌝ }
 {

@@ -1,8 +1,8 @@
 -- The three area formulas are tenths of a total over 100,000.
-use mathlib.Core.Path.{_≡_, ap₂, _∙_, sym}
+use mathlib.Core.Path.{_≡_, ap₂}
 use mathlib.Core.Bool.{cond}
 use mathlib.Core.Logic.{⊎-elim}
-use Prim.Native.Nat.{ℕ, _+_, _*_, _/_, _≤_, _<_}
+use Prim.Native.Nat.{ℕ, _*_, _/_, _≤_, _<_}
 use native.Mathlib.Nat.{mul-div-mul-left}
 use native.Mathlib.Omega.{arith}
 use lib.Dec.{ltb, lit<}

@@ -1,5 +1,5 @@
 -- More speed or more mass never lowers an area.
-use Prim.Native.Nat.{ℕ, _+_, _≤_, _<_}
+use Prim.Native.Nat.{ℕ, _≤_, _<_}
 use native.Mathlib.Nat.{mul-le-mul, mul-le-mul-left, mul-le-mul-right, add-le-add, le-refl}
 use native.Mathlib.Omega.{arith}
 use lib.Dec.{lit<}

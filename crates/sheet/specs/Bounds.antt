@@ -1,5 +1,5 @@
 -- How large the lines get within the aircraft's ranges: what the private functions ask of their arguments, so that every product fits 64 bits.
-use Prim.Native.Nat.{ℕ, _+_, _≤_}
+use Prim.Native.Nat.{ℕ, _≤_}
 use Rattle.sheet.specs.Ranges.{dimensionMax}
 use Rattle.sheet.specs.Lines.{fullWidth, glideOf}
 use Rattle.sheet.specs.declared.Bracket.{Bracket}
@@ -15,6 +15,7 @@ glideMax = glideOf .high
 abbrev pub slideMax : ℕ
 slideMax = 3082587895
 
+-- a round number above every T
 abbrev pub totalMax : ℕ
 totalMax = 1000000000000000
 
