@@ -13,7 +13,7 @@ use Rattle.arithmetic.proofs.ListLaws.{length-tabulate, tabulate-at, tabulate-s
 use Rattle.hex.specs.Digits.{field, isLine}
 use Rattle.hex.specs.Words.{wordAt, numberOfWords}
 use Rattle.hex.proofs.WordLaws.{words-field}
-use Rattle.case_text.specs.Layout.{dimensionWidth, massWidth, speedWidth, cellAreaWidth, controlledWidth, wordWidth, dimensionStart, massStart, speedStart, cellAreaStart, controlledStart, wordStart, rows, columns, cells, markLine, countWidth, countLine, marksStart, countsStart, textLength}
+use Rattle.case_text.specs.Layout.{dimensionWidth, massWidth, speedWidth, cellAreaWidth, controlledWidth, wordWidth, dimensionStart, massStart, speedStart, cellAreaStart, controlledStart, wordStart, mapRows, mapColumns, mapCells, markLine, countWidth, countLine, marksStart, countsStart, textLength}
 use Rattle.case_text.specs.Text.{areLines, isText, headOf, marksOf, countsOf, countOf, rowOf, noHead, readingRefusal, readingOf, leftIn, ReadingPromise, RefusedReading}
 use Rattle.case_text.specs.declared.CaseHead.{CaseHead}
 use Rattle.case_text.specs.declared.Reading.{Reading}
@@ -26,18 +26,18 @@ wordIn line i = wordAt line (4 * i)
 abbrev pub countIn : List ℕ → ℕ → ℕ
 countIn words k = numberOfWords (getD words (2 * k) 0) (getD words (2 * k + 1) 0)
 
-pub words-counts : (line : List ℕ) → ((i : ℕ) → getD line i 0 < 256) → tabulate (countIn (tabulate (wordIn line) (2 * columns))) columns ≡ tabulate (countOf line) columns
+pub words-counts : (line : List ℕ) → ((i : ℕ) → getD line i 0 < 256) → tabulate (countIn (tabulate (wordIn line) (2 * mapColumns))) mapColumns ≡ tabulate (countOf line) mapColumns
 words-counts line small =
-    tabulate-same (countIn (tabulate (wordIn line) (2 * columns))) (countOf line) columns
+    tabulate-same (countIn (tabulate (wordIn line) (2 * mapColumns))) (countOf line) mapColumns
     (λ k l.
     let high : 4 * (2 * k) ≡ countWidth * k = omega arith in
     let low : 4 * (2 * k + 1) ≡ countWidth * k + 4 = omega arith in
-    rw (tabulate-at (wordIn line) (2 * columns) (2 * k) (omega arith), tabulate-at (wordIn line) (2 * columns) (2 * k + 1) (omega arith), high, low)
+    rw (tabulate-at (wordIn line) (2 * mapColumns) (2 * k) (omega arith), tabulate-at (wordIn line) (2 * mapColumns) (2 * k + 1) (omega arith), high, low)
     (words-field line (countWidth * k) small))
 
-pub row-long : (line : List ℕ) → length (rowOf line) ≡ columns
+pub row-long : (line : List ℕ) → length (rowOf line) ≡ mapColumns
 unfolding rowOf
-row-long line = length-tabulate (countOf line) columns
+row-long line = length-tabulate (countOf line) mapColumns
 
 -- line 1 and the test of a text, from their parts
 
@@ -48,7 +48,7 @@ pub head-is : (t : List ℕ) {dimension mass speed area controlled word : ℕ}
 head-is t a b c d e f = rw (a, b, c, d, e, f)
 
 pub text-is : (t : List ℕ) {head marks counts : Bool}
-    → head ≡ isLine (part t 0 marksStart) → marks ≡ areLines (part t marksStart countsStart) markLine rows → counts ≡ areLines (part t countsStart textLength) countLine rows
+    → head ≡ isLine (part t 0 marksStart) → marks ≡ areLines (part t marksStart countsStart) markLine mapRows → counts ≡ areLines (part t countsStart textLength) countLine mapRows
     → head && marks && counts ≡ isText t
 unfolding isText
 text-is t p q r = rw (p, q, r)
@@ -58,8 +58,8 @@ text-is t p q r = rw (p, q, r)
 -- one that is 0, of a text and lent buffers of the right lengths
 pub record Accepted (t : List ℕ) (counts marks : ℕ) : Type 0 where
   pub text-long : length t ≡ textLength
-  pub counts-long : counts ≡ cells
-  pub marks-long : marks ≡ rows
+  pub counts-long : counts ≡ mapCells
+  pub marks-long : marks ≡ mapRows
   pub text : isText t ≡ true
 
 passed : (a b c d : Bool) → _≡_ {A = ℕ} (cond (not a) 13 (cond (not b || not c) 5 (cond (not d) 14 0))) 0 → (a ≡ true) × (b ≡ true) × (c ≡ true) × (d ≡ true)
@@ -72,7 +72,7 @@ passed false b c d e = absurd (omega arith)
 pub refusal-none : (t : List ℕ) (counts marks : ℕ) → readingRefusal t counts marks ≡ 0 → Accepted t counts marks
 unfolding readingRefusal
 refusal-none t counts marks e =
-    let p = passed (eqb (length t) textLength) (eqb counts cells) (eqb marks rows) (isText t) e in
+    let p = passed (eqb (length t) textLength) (eqb counts mapCells) (eqb marks mapRows) (isText t) e in
     record {
       text-long = eqb-true _ _ (p .0);
       counts-long = eqb-true _ _ (p .1);
@@ -96,7 +96,7 @@ numbers false false false = inl refl
 refusal-numbers : (t : List ℕ) (counts marks : ℕ) → Numbers (readingRefusal t counts marks)
 unfolding readingRefusal
 refusal-numbers t counts marks =
-    numbers (not (eqb (length t) textLength)) (not (eqb counts cells) || not (eqb marks rows)) (not (isText t))
+    numbers (not (eqb (length t) textLength)) (not (eqb counts mapCells) || not (eqb marks mapRows)) (not (isText t))
 
 -- what is answered and left, from the refusal number r
 module _ (text counts marks : List ℕ) (r : ℕ) (is : r ≡ readingRefusal text (length counts) (length marks)) where

@@ -13,7 +13,7 @@ use Rattle.hex.specs.Digits.{field, written, isLine, lineEnd}
 use Rattle.hex.proofs.DigitLaws.{number-below}
 use Rattle.hex.proofs.LineLaws.{digits-within, field-is, line-at}
 use Rattle.hex.proofs.FieldLaws.{fields-read, fields-are}
-use Rattle.case_text.specs.Layout.{headDigits, rows, columns, cells, markWidth, markLine, countWidth, countDigits, countLine, marksStart, countsStart, textLength}
+use Rattle.case_text.specs.Layout.{headDigits, mapRows, mapColumns, mapCells, markWidth, markLine, countWidth, countDigits, countLine, marksStart, countsStart, textLength}
 use Rattle.case_text.specs.Text.{areLines, isText, headOf, markOf, marksOf, countOf, rowOf, mapRow, countsOf, readingRefusal, readingOf, leftIn, ReadingPromise}
 use Rattle.case_text.specs.TextLaw.{CaseFields, headFields, headText, fieldText, countText, rowText, textOf, fieldsOf, Fits, TextLaw, ReadingLaw}
 use Rattle.case_text.specs.declared.Reading.{Reading}
@@ -24,32 +24,32 @@ use Rattle.case_text.proofs.WrittenText.{marksBytes, countsBytes, text-
 -- the text with the fields that are read from an accepted text is that text
 
 -- the count of row r, column k
-count-at : (t : List ℕ) (r k : ℕ) → r < rows → k < columns → getD (countsOf t) (columns * r + k) 0 ≡ field t (countsStart + countLine * r + countWidth * k) countWidth
+count-at : (t : List ℕ) (r k : ℕ) → r < mapRows → k < mapColumns → getD (countsOf t) (mapColumns * r + k) 0 ≡ field t (countsStart + countLine * r + countWidth * k) countWidth
 unfolding countsOf rowOf
 count-at t r k h l =
-    let whole = whole-part (joined (mapRow t) rows) cells (length-joined (mapRow t) columns (λ r. row-long _) rows) in
-    let row = joined-part (mapRow t) columns (joined (mapRow t) rows) 0 (λ r. row-long _) rows whole r h in
-    let place : 0 + columns * r + k ≡ columns * r + k = omega arith in
-    rw place at (sym (part-at (joined (mapRow t) rows) (0 + columns * r) columns (mapRow t r) k l row))
-    ∙ tabulate-at (countOf (part t (countsStart + countLine * r) (countsStart + countLine * r + countDigits))) columns k l ∙ count-place t r k l
+    let whole = whole-part (joined (mapRow t) mapRows) mapCells (length-joined (mapRow t) mapColumns (λ r. row-long _) mapRows) in
+    let row = joined-part (mapRow t) mapColumns (joined (mapRow t) mapRows) 0 (λ r. row-long _) mapRows whole r h in
+    let place : 0 + mapColumns * r + k ≡ mapColumns * r + k = omega arith in
+    rw place at (sym (part-at (joined (mapRow t) mapRows) (0 + mapColumns * r) mapColumns (mapRow t r) k l row))
+    ∙ tabulate-at (countOf (part t (countsStart + countLine * r) (countsStart + countLine * r + countDigits))) mapColumns k l ∙ count-place t r k l
 
-marks-count : (t : List ℕ) → length (marksOf t) ≡ rows
+marks-count : (t : List ℕ) → length (marksOf t) ≡ mapRows
 unfolding marksOf
-marks-count t = length-tabulate (markOf t) rows
+marks-count t = length-tabulate (markOf t) mapRows
 
-counts-count : (t : List ℕ) → length (countsOf t) ≡ cells
+counts-count : (t : List ℕ) → length (countsOf t) ≡ mapCells
 unfolding countsOf
-counts-count t = length-joined (mapRow t) columns (λ r. row-long _) rows
+counts-count t = length-joined (mapRow t) mapColumns (λ r. row-long _) mapRows
 
 module _ (t : List ℕ) (long : length t ≡ textLength) (accepted : isText t ≡ true) where
   abbrev Tests : Type 0
-  Tests = (isLine (take marksStart t) ≡ true) × (areLines (take marksBytes (drop marksStart t)) markLine rows ≡ true) × (areLines (take countsBytes (drop countsStart t)) countLine rows ≡ true)
+  Tests = (isLine (take marksStart t) ≡ true) × (areLines (take marksBytes (drop marksStart t)) markLine mapRows ≡ true) × (areLines (take countsBytes (drop countsStart t)) countLine mapRows ≡ true)
 
   tests : Tests
   unfolding isText
   tests =
-      let outer = both (isLine (take marksStart t) && areLines (take marksBytes (drop marksStart t)) markLine rows) (areLines (take countsBytes (drop countsStart t)) countLine rows) accepted in
-      let inner = both (isLine (take marksStart t)) (areLines (take marksBytes (drop marksStart t)) markLine rows) (outer .0) in
+      let outer = both (isLine (take marksStart t) && areLines (take marksBytes (drop marksStart t)) markLine mapRows) (areLines (take countsBytes (drop countsStart t)) countLine mapRows) accepted in
+      let inner = both (isLine (take marksStart t)) (areLines (take marksBytes (drop marksStart t)) markLine mapRows) (outer .0) in
       (inner .0, inner .1, outer .1)
 
   head-back : PartIs t 0 marksStart (headText (headOf t))
@@ -59,17 +59,17 @@ module _ (t : List ℕ) (long : length t ≡ textLength) (accepted : isText t �
       let fields = fields-are (headFields (headOf t)) t 0 (omega arith) (line .digits) (refl, (refl, (refl, (refl, (refl, (refl, tt)))))) in
       parts-joined t 0 headDigits 1 (written (headFields (headOf t))) lineEnd fields (line .end)
 
-  marks-back : PartIs t marksStart marksBytes (joined (fieldText markWidth (marksOf t)) rows)
+  marks-back : PartIs t marksStart marksBytes (joined (fieldText markWidth (marksOf t)) mapRows)
   unfolding marksOf
-  marks-back = block-back markWidth marksStart t rows (omega arith) (tests .1)
+  marks-back = block-back markWidth marksStart t mapRows (omega arith) (tests .1)
 
-  row-back : (r : ℕ) → r < rows → PartIs t (countsStart + countLine * r) countLine (rowText (countsOf t) r)
+  row-back : (r : ℕ) → r < mapRows → PartIs t (countsStart + countLine * r) countLine (rowText (countsOf t) r)
   unfolding rowText
   row-back r h =
       let at = countsStart + countLine * r in
-      let line = line-of-lines t countsStart countsBytes countDigits rows r (omega arith) refl (tests .2) h in
+      let line = line-of-lines t countsStart countsBytes countDigits mapRows r (omega arith) refl (tests .2) h in
       parts-joined t at countDigits 1 _ _
-      (joined-is (countText (countsOf t) r) countWidth t at columns
+      (joined-is (countText (countsOf t) r) countWidth t at mapColumns
       (λ k l. rw (count-at t r k h l) (field-is t (at + countWidth * k) countWidth (omega arith) (digits-within t at countDigits (countWidth * k) countWidth (omega arith) (line .digits)))))
       (line .end)
 
@@ -77,16 +77,16 @@ module _ (t : List ℕ) (long : length t ≡ textLength) (accepted : isText t �
   unfolding textOf
   text-back =
       let begin = parts-joined t 0 marksStart marksBytes _ _ head-back marks-back in
-      part-whole t _ textLength long (parts-joined t 0 countsStart countsBytes _ _ begin (joined-is (rowText (countsOf t)) countLine t countsStart rows row-back))
+      part-whole t _ textLength long (parts-joined t 0 countsStart countsBytes _ _ begin (joined-is (rowText (countsOf t)) countLine t countsStart mapRows row-back))
 
 -- the fields of a text fit their places, also if it is not accepted
 module _ (t : List ℕ) where
-  count-below : (r k : ℕ) → r < rows → k < columns → getD (countsOf t) (columns * r + k) 0 < 16 ^ countWidth
+  count-below : (r k : ℕ) → r < mapRows → k < mapColumns → getD (countsOf t) (mapColumns * r + k) 0 < 16 ^ countWidth
   count-below r k h l = rw (count-at t r k h l) (number-below countWidth _)
 
-  marks-below : (k : ℕ) → k < rows → getD (marksOf t) k 0 < 16 ^ markWidth
+  marks-below : (k : ℕ) → k < mapRows → getD (marksOf t) k 0 < 16 ^ markWidth
   unfolding marksOf
-  marks-below = block-below markWidth marksStart t rows
+  marks-below = block-below markWidth marksStart t mapRows
 
   fields-fit : Fits (fieldsOf t)
   fields-fit =
@@ -102,8 +102,8 @@ module _ (t : List ℕ) where
         counts-long = counts-count t;
         count =
             λ k l.
-            let place : columns * (k / columns) + k % columns ≡ k = omega arith in
-            rw place at (count-below (k / columns) (k % columns) (omega arith) (omega arith));
+            let place : mapColumns * (k / mapColumns) + k % mapColumns ≡ k = omega arith in
+            rw place at (count-below (k / mapColumns) (k % mapColumns) (omega arith) (omega arith));
       }
 
 pub text-law : TextLaw
@@ -119,7 +119,7 @@ text-law =
 
 -- the law of one reading
 module _ (text counts marks : List ℕ) (r : Reading) (counts-after marks-after : List ℕ) (p : ReadingPromise text counts marks r counts-after marks-after) where
-  written-read : (f : CaseFields) → Fits f → text ≡ textOf f → length counts ≡ cells → length marks ≡ rows
+  written-read : (f : CaseFields) → Fits f → text ≡ textOf f → length counts ≡ mapCells → length marks ≡ mapRows
       → (r ≡ record { refusal = 0; head = f .head }) × (counts-after ≡ f .counts) × (marks-after ≡ f .marks)
   unfolding readingOf leftIn
   written-read f fits is lc lm =

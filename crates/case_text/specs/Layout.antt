@@ -2,7 +2,8 @@
 -- "Line 1 has 38 digits: dimension 8, mass 8, speed 8, cell area 8, controlled mark 2, mitigation word 4. Then 64 lines of
 -- 16 digits, the footprint, and 64 lines of 512 digits, eight a count. The whole is 33,959 bytes."
 use Prim.Native.Nat.{ℕ, _+_, _*_}
-use Rattle.arithmetic.specs.MapSize.{mapRows, mapColumns}
+-- "64 rows of 64 cells": the counts and the marks that are lent
+pub use Rattle.arithmetic.specs.MapSize.{mapRows, mapColumns, mapCells}
 
 abbrev pub dimensionWidth : ℕ
 dimensionWidth = 8
@@ -44,16 +45,6 @@ wordStart = controlledStart + controlledWidth
 abbrev pub headDigits : ℕ
 headDigits = wordStart + wordWidth
 
--- "64 rows of 64 cells": the counts and the marks that are lent
-abbrev pub rows : ℕ
-rows = mapRows
-
-abbrev pub columns : ℕ
-columns = mapColumns
-
-abbrev pub cells : ℕ
-cells = rows * columns
-
 -- a line of the footprint: its digits, and with its line end
 abbrev pub markWidth : ℕ
 markWidth = 16
@@ -66,7 +57,7 @@ abbrev pub countWidth : ℕ
 countWidth = 8
 
 abbrev pub countDigits : ℕ
-countDigits = countWidth * columns
+countDigits = countWidth * mapColumns
 
 abbrev pub countLine : ℕ
 countLine = countDigits + 1
@@ -76,7 +67,7 @@ abbrev pub marksStart : ℕ
 marksStart = headDigits + 1
 
 abbrev pub countsStart : ℕ
-countsStart = marksStart + markLine * rows
+countsStart = marksStart + markLine * mapRows
 
 abbrev pub textLength : ℕ
-textLength = countsStart + countLine * rows
+textLength = countsStart + countLine * mapRows

@@ -8,7 +8,7 @@ use lib.Dec.{eqb}
 use lib.ListN.{length}
 use Rattle.arithmetic.specs.Lists.{tabulate, joined, every, part}
 use Rattle.hex.specs.Digits.{field, isLine}
-use Rattle.case_text.specs.Layout.{dimensionWidth, massWidth, speedWidth, cellAreaWidth, controlledWidth, wordWidth, dimensionStart, massStart, speedStart, cellAreaStart, controlledStart, wordStart, rows, columns, cells, markWidth, markLine, countWidth, countDigits, countLine, marksStart, countsStart, textLength}
+use Rattle.case_text.specs.Layout.{dimensionWidth, massWidth, speedWidth, cellAreaWidth, controlledWidth, wordWidth, dimensionStart, massStart, speedStart, cellAreaStart, controlledStart, wordStart, mapRows, mapColumns, mapCells, markWidth, markLine, countWidth, countDigits, countLine, marksStart, countsStart, textLength}
 use Rattle.case_text.specs.declared.CaseHead.{CaseHead}
 use Rattle.case_text.specs.declared.Reading.{Reading}
 
@@ -18,7 +18,7 @@ areLines s width n = every (λ k. isLine (part s (k * width) (k * width + width)
 
 -- each byte is "a digit or line end in its place": line 1, the footprint's lines, the counts' lines
 unfoldable pub isText : List ℕ → Bool
-isText t = isLine (part t 0 marksStart) && areLines (part t marksStart countsStart) markLine rows && areLines (part t countsStart textLength) countLine rows
+isText t = isLine (part t 0 marksStart) && areLines (part t marksStart countsStart) markLine mapRows && areLines (part t countsStart textLength) countLine mapRows
 
 -- line 1: "dimension 8, mass 8, speed 8, cell area 8, controlled mark 2, mitigation word 4"
 abbrev pub headOf : List ℕ → CaseHead
@@ -37,26 +37,26 @@ abbrev pub markOf : List ℕ → ℕ → ℕ
 markOf t k = field t (marksStart + markLine * k) markWidth
 
 unfoldable pub marksOf : List ℕ → List ℕ
-marksOf t = tabulate (markOf t) rows
+marksOf t = tabulate (markOf t) mapRows
 
 -- "64 lines of 512 digits, eight a count": count k of a line, the counts of a line, and those of all lines
 abbrev pub countOf : List ℕ → ℕ → ℕ
 countOf line k = field line (countWidth * k) countWidth
 
 unfoldable pub rowOf : List ℕ → List ℕ
-rowOf line = tabulate (countOf line) columns
+rowOf line = tabulate (countOf line) mapColumns
 
 abbrev pub mapRow : List ℕ → ℕ → List ℕ
 mapRow t r = rowOf (part t (countsStart + countLine * r) (countsStart + countLine * r + countDigits))
 
 unfoldable pub countsOf : List ℕ → List ℕ
-countsOf t = joined (mapRow t) rows
+countsOf t = joined (mapRow t) mapRows
 
 -- "13 length other than 33,959; 5 a lent count or footprint buffer of the wrong length; 14 a byte that isn't a digit or line
 -- end in its place", for lent buffers of so many counts and marks; 0 where there is none
 unfoldable pub readingRefusal : List ℕ → ℕ → ℕ → ℕ
 readingRefusal t counts marks =
-    cond (not (eqb (length t) textLength)) 13 (cond (not (eqb counts cells) || not (eqb marks rows)) 5 (cond (not (isText t)) 14 0))
+    cond (not (eqb (length t) textLength)) 13 (cond (not (eqb counts mapCells) || not (eqb marks mapRows)) 5 (cond (not (isText t)) 14 0))
 
 -- line 1 of a refused reading
 abbrev pub noHead : CaseHead

@@ -7,7 +7,7 @@ use mathlib.Core.List.{List, [], _∷_, _++_}
 use lib.ListN.{length, getD}
 use Rattle.arithmetic.specs.Lists.{joined}
 use Rattle.hex.specs.Digits.{digits, written, lineEnd}
-use Rattle.case_text.specs.Layout.{dimensionWidth, massWidth, speedWidth, cellAreaWidth, controlledWidth, wordWidth, rows, columns, cells, markWidth, countWidth, textLength}
+use Rattle.case_text.specs.Layout.{dimensionWidth, massWidth, speedWidth, cellAreaWidth, controlledWidth, wordWidth, mapRows, mapColumns, mapCells, markWidth, countWidth, textLength}
 use Rattle.case_text.specs.Text.{isText, headOf, marksOf, countsOf}
 use Rattle.case_text.specs.declared.CaseHead.{CaseHead}
 use Rattle.case_text.specs.declared.Reading.{Reading}
@@ -33,14 +33,14 @@ fieldText w values k = digits w (getD values k 0) ++ lineEnd
 
 -- the count of row r, column k, and the line of row r
 abbrev pub countText : List ℕ → ℕ → ℕ → List ℕ
-countText counts r k = digits countWidth (getD counts (columns * r + k) 0)
+countText counts r k = digits countWidth (getD counts (mapColumns * r + k) 0)
 
 unfoldable pub rowText : List ℕ → ℕ → List ℕ
-rowText counts r = joined (countText counts r) columns ++ lineEnd
+rowText counts r = joined (countText counts r) mapColumns ++ lineEnd
 
 -- the case text: line 1, then "64 lines of 16 digits, the footprint, and 64 lines of 512 digits, eight a count"
 unfoldable pub textOf : CaseFields → List ℕ
-textOf f = headText (f .head) ++ joined (fieldText markWidth (f .marks)) rows ++ joined (rowText (f .counts)) rows
+textOf f = headText (f .head) ++ joined (fieldText markWidth (f .marks)) mapRows ++ joined (rowText (f .counts)) mapRows
 
 -- the fields that are read from a text
 abbrev pub fieldsOf : List ℕ → CaseFields
@@ -54,10 +54,10 @@ pub record Fits (f : CaseFields) : Type 0 where
   pub cell-area : f .head .«cell_area» < 16 ^ cellAreaWidth
   pub controlled : f .head .controlled < 16 ^ controlledWidth
   pub word : f .head .word < 16 ^ wordWidth
-  pub marks-long : length (f .marks) ≡ rows
-  pub mark : (k : ℕ) → k < rows → getD (f .marks) k 0 < 16 ^ markWidth
-  pub counts-long : length (f .counts) ≡ cells
-  pub count : (k : ℕ) → k < cells → getD (f .counts) k 0 < 16 ^ countWidth
+  pub marks-long : length (f .marks) ≡ mapRows
+  pub mark : (k : ℕ) → k < mapRows → getD (f .marks) k 0 < 16 ^ markWidth
+  pub counts-long : length (f .counts) ≡ mapCells
+  pub count : (k : ℕ) → k < mapCells → getD (f .counts) k 0 < 16 ^ countWidth
 
 -- the law over the definitions
 pub record TextLaw : Type 0 where
@@ -75,7 +75,7 @@ pub record TextLaw : Type 0 where
 -- the law of one reading, in the words of its contract
 pub record ReadingLaw (text counts marks : List ℕ) (r : Reading) (counts-after marks-after : List ℕ) : Type 0 where
   -- the text of fields that fit is accepted, and these fields are answered and stored
-  pub written-read : (f : CaseFields) → Fits f → text ≡ textOf f → length counts ≡ cells → length marks ≡ rows
+  pub written-read : (f : CaseFields) → Fits f → text ≡ textOf f → length counts ≡ mapCells → length marks ≡ mapRows
       → (r ≡ record { refusal = 0; head = f .head }) × (counts-after ≡ f .counts) × (marks-after ≡ f .marks)
   -- a text that is not refused is the text of what was answered and stored
   pub read-written : r .refusal ≡ 0 → textOf (record { head = r .head; marks = marks-after; counts = counts-after }) ≡ text

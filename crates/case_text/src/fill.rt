@@ -24,7 +24,7 @@ ghost use lib.ListN.{length, getD};
 ghost use Rattle.arithmetic.specs.Lists.{tabulate};
 ghost use Rattle.hex.specs.Digits.{field};
 ghost use Rattle.hex.specs.Words.{wordAt, numberOfWords};
-ghost use Rattle.case_text.specs.Layout.{columns, cells, rows, countDigits, textLength};
+ghost use Rattle.case_text.specs.Layout.{mapColumns, mapCells, mapRows, countDigits, textLength};
 ghost use Rattle.case_text.specs.Text.{headOf, marksOf, rowOf, countsOf};
 
 // The digits of a word, and the words of a line of counts.
@@ -71,7 +71,7 @@ fn mark_at(text: &[u8], at: usize) -> u64
 }
 
 pub(crate) fn fill_marks(text: &[u8], marks: &mut [u64])
-    requires { ⌜ (length (now text) ≡ textLength) × (length (now marks) ≡ rows) ⌝ }
+    requires { ⌜ (length (now text) ≡ textLength) × (length (now marks) ≡ mapRows) ⌝ }
     ensures { λ _. ⌜ now (marks .exit) ≡ marksOf (now (text .entry)) ⌝ }
 {
     let mut k = 0;
@@ -83,8 +83,8 @@ pub(crate) fn fill_marks(text: &[u8], marks: &mut [u64])
 
 // Each four bytes of a line as one number: a copy.
 fn words_of(line: &[u8], words: &mut [u32])
-    requires { ⌜ (length (now line) ≡ countDigits) × (length (now words) ≡ 2 * columns) ⌝ }
-    ensures { λ _. ⌜ now (words .exit) ≡ tabulate (λ i. wordAt (now (line .entry)) (4 * i)) (2 * columns) ⌝ }
+    requires { ⌜ (length (now line) ≡ countDigits) × (length (now words) ≡ 2 * mapColumns) ⌝ }
+    ensures { λ _. ⌜ now (words .exit) ≡ tabulate (λ i. wordAt (now (line .entry)) (4 * i)) (2 * mapColumns) ⌝ }
 {
     let mut i = 0;
     while i < WORDS {
@@ -95,8 +95,8 @@ fn words_of(line: &[u8], words: &mut [u32])
 
 // The count of each two words: vectorised, unlike a loop that also makes the words.
 fn fill_words(words: &[u32], row: &mut [u32])
-    requires { ⌜ (length (now words) ≡ 2 * columns) × (length (now row) ≡ columns) ⌝ }
-    ensures { λ _. ⌜ now (row .exit) ≡ tabulate (λ k. numberOfWords (getD (now (words .entry)) (2 * k) 0) (getD (now (words .entry)) (2 * k + 1) 0)) columns ⌝ }
+    requires { ⌜ (length (now words) ≡ 2 * mapColumns) × (length (now row) ≡ mapColumns) ⌝ }
+    ensures { λ _. ⌜ now (row .exit) ≡ tabulate (λ k. numberOfWords (getD (now (words .entry)) (2 * k) 0) (getD (now (words .entry)) (2 * k + 1) 0)) mapColumns ⌝ }
 {
     let mut k = 0;
     while k < COLUMNS {
@@ -107,7 +107,7 @@ fn fill_words(words: &[u32], row: &mut [u32])
 
 // The counts of one line.
 fn fill_row(line: &[u8], row: &mut [u32])
-    requires { ⌜ (length (now line) ≡ countDigits) × (length (now row) ≡ columns) ⌝ }
+    requires { ⌜ (length (now line) ≡ countDigits) × (length (now row) ≡ mapColumns) ⌝ }
     ensures { λ _. ⌜ now (row .exit) ≡ rowOf (now (line .entry)) ⌝ }
 {
     let mut words = [0u32; WORDS];
@@ -116,7 +116,7 @@ fn fill_row(line: &[u8], row: &mut [u32])
 }
 
 pub(crate) fn fill_counts(text: &[u8], counts: &mut [u32])
-    requires { ⌜ (length (now text) ≡ textLength) × (length (now counts) ≡ cells) ⌝ }
+    requires { ⌜ (length (now text) ≡ textLength) × (length (now counts) ≡ mapCells) ⌝ }
     ensures { λ _. ⌜ now (counts .exit) ≡ countsOf (now (text .entry)) ⌝ }
 {
     let mut r = 0;

@@ -20,7 +20,7 @@ use mir.ValLaws.{toZ-pos}
 use Rattle.arithmetic.specs.SumsAndMaxima.{sumBelow, maxBelow}
 use Rattle.arithmetic.proofs.TestLaws.{lt-or-le, cond-le, le-cond, allBelow, all-below}
 use Rattle.arithmetic.proofs.SumLaws.{sum-same, max-same, max-map, ones-sum}
-use Rattle.footprint.specs.Map.{rowCells, largestCount, squareKilometre, bitAt, markAt, belowDensity, tableRow}
+use Rattle.footprint.specs.Map.{mapColumns, largestCount, squareKilometre, bitAt, markAt, belowDensity, tableRow}
 use Rattle.footprint.specs.Walk.{Masks, maskOf}
 
 -- ---- marks
@@ -39,7 +39,7 @@ pub key-le : (m x : ℕ) → m < 2 → x ≤ largestCount → m * (x + 1) ≤ la
 key-le m x h l = le-trans (marked-le m (x + 1) h) (omega arith)
 
 -- the count of ones of a footprint row is the number of its marked cells
-pub ones-of-row : (bits : ℕ) → bits < 2 ^ 64 → ones bits ≡ sumBelow (bitAt bits) rowCells
+pub ones-of-row : (bits : ℕ) → bits < 2 ^ 64 → ones bits ≡ sumBelow (bitAt bits) mapColumns
 ones-of-row bits h =
     ones-sum 64 bits h
     ∙ sum-same (λ c. bits / 2 ^ (64 - suc c) % 2) (bitAt bits) 64 (λ c l. let e : 64 - suc c ≡ 63 - c = omega arith in rw e)

@@ -14,7 +14,7 @@ use lib.ListN.{getD}
 use Rattle.arithmetic.specs.SumsAndMaxima.{sumBelow, maxBelow, firstMaxBelow}
 use Rattle.arithmetic.proofs.TestLaws.{not-refused, inside}
 use Rattle.arithmetic.proofs.SumLaws.{sum-same, sum-le, sum-mono, max-mono, le-max, first-lt, first-at, first-before, sum-rows}
-use Rattle.footprint.specs.Map.{mapCells, mapRows, rowCells, largestCount, leastArea, largestArea, countAt, bitAt, markAt, keyAt, peopleAt, tableRow, cellsIn, wrongLength, wrongArea, wrongCount, noMark, footprintRefusal, refusedFootprint, foundFootprint, footprintOf}
+use Rattle.footprint.specs.Map.{mapCells, mapRows, mapColumns, largestCount, leastArea, largestArea, countAt, bitAt, markAt, keyAt, peopleAt, tableRow, cellsIn, wrongLength, wrongArea, wrongCount, noMark, footprintRefusal, refusedFootprint, foundFootprint, footprintOf}
 use Rattle.footprint.specs.Promises.{EmptyCell, FootprintRefusal, AcceptedFootprint, FootprintRanges, WorstCell, SetBits, FootprintPromise, Monotone}
 use Rattle.footprint.specs.declared.Footprint.{Footprint}
 use Rattle.footprint.proofs.CellLaws.{mark-lt, marked-le, ones-of-row, no-key, row-mono, row-ge, row-le, rowOfKey, row-of-largest}
@@ -166,9 +166,9 @@ module _ (counts marks : List ℕ) (area : ℕ) (ok : footprintOf counts marks a
   pub set-bits : ((r : ℕ) → r < mapRows → getD marks r 0 < 2 ^ 64) → SetBits counts marks area
   set-bits small =
       ap (λ (f : Footprint). f .cells) found-is
-      ∙ sym (sum-rows (markAt marks) rowCells mapRows)
-      ∙ sum-same (λ r. sumBelow (λ c. markAt marks (rowCells * r + c)) rowCells) (λ r. ones (getD marks r 0)) mapRows
-      (λ r l. sym (sum-same (bitAt (getD marks r 0)) (λ c. markAt marks (rowCells * r + c)) rowCells (mark-here counts marks r))
+      ∙ sym (sum-rows (markAt marks) mapColumns mapRows)
+      ∙ sum-same (λ r. sumBelow (λ c. markAt marks (mapColumns * r + c)) mapColumns) (λ r. ones (getD marks r 0)) mapRows
+      (λ r l. sym (sum-same (bitAt (getD marks r 0)) (λ c. markAt marks (mapColumns * r + c)) mapColumns (mark-here counts marks r))
       ∙ sym (ones-of-row (getD marks r 0) (small r l)))
 
 pub footprint-promise : (counts marks : List ℕ) (area : ℕ) → FootprintPromise counts marks area

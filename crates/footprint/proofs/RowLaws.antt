@@ -13,7 +13,7 @@ use lib.Dec.{ltb, eqb}
 use Rattle.arithmetic.specs.SumsAndMaxima.{sumBelow, maxBelow}
 use Rattle.arithmetic.proofs.TestLaws.{lt-or-le, neither, cond-le}
 use Rattle.arithmetic.proofs.SumLaws.{sum-next, max-next, sum-le, max-le, max-same, max-map, sum-columns, max-columns}
-use Rattle.footprint.specs.Map.{rowCells, largestCount, countAt, bitAt}
+use Rattle.footprint.specs.Map.{mapColumns, largestCount, countAt, bitAt}
 use Rattle.footprint.specs.Walk.{rowKey, markedCount, aboveLimit, withCell, laneOf, rowSum, keyAbove, rowWalk}
 use Rattle.footprint.specs.declared.row.Lane.{Lane}
 use Rattle.footprint.specs.declared.row.RowSum.{RowSum}
@@ -46,8 +46,8 @@ module _ (counts : List ℕ) (bits limit : ℕ) where
       let a = sym (max-next (λ i. aboveLimit limit (markedCount counts bits (4 * i + j))) k) in
       ap₂ (λ (x : Lane) (y : ℕ). withCell x limit y) e h ∙ (λ i. record { people = p i; above = a i })
 
-  module _ (small : (i : ℕ) → i < rowCells → countAt counts i ≤ largestCount) where
-    marked-small : (i : ℕ) → i < rowCells → markedCount counts bits i ≤ largestCount
+  module _ (small : (i : ℕ) → i < mapColumns → countAt counts i ≤ largestCount) where
+    marked-small : (i : ℕ) → i < mapColumns → markedCount counts bits i ≤ largestCount
     marked-small i l = le-trans (marked-le (bitAt bits i) (countAt counts i) (omega arith)) (small i l)
 
     lane-le : (j k : ℕ) {lane : Lane} → j < 4 → k ≤ 16 → lane ≡ laneOf counts bits limit j k → (lane .people ≤ k * largestCount) × (lane .above < 2)
@@ -71,26 +71,26 @@ module _ (counts : List ℕ) (bits limit : ℕ) where
     lane-bit : (j : ℕ) → j < 4 → lane j .above < 2
     lane-bit j h = lane-le j 16 h (omega arith) refl .1
 
-    above-is : bitOr (bitOr (bitOr (lane 0 .above) (lane 1 .above)) (lane 2 .above)) (lane 3 .above) ≡ aboveLimit limit (maxBelow (markedCount counts bits) rowCells)
+    above-is : bitOr (bitOr (bitOr (lane 0 .above) (lane 1 .above)) (lane 2 .above)) (lane 3 .above) ≡ aboveLimit limit (maxBelow (markedCount counts bits) mapColumns)
     above-is =
         or-four (lane 0 .above) (lane 1 .above) (lane 2 .above) (lane 3 .above) (lane-bit 0 (omega arith)) (lane-bit 1 (omega arith)) (lane-bit 2 (omega arith)) (lane-bit 3 (omega arith))
         ∙ sym (max-columns (λ i. aboveLimit limit (markedCount counts bits i)) 16)
-        ∙ max-map (markedCount counts bits) (aboveLimit limit) (above-zero limit) (above-mono limit) rowCells
+        ∙ max-map (markedCount counts bits) (aboveLimit limit) (above-zero limit) (above-mono limit) mapColumns
 
     -- the four lanes are the row
     module _ {a b c d : Lane} (ea : a ≡ lane 0) (eb : b ≡ lane 1) (ec : c ≡ lane 2) (ed : d ≡ lane 3) where
       pub lanes-all : record { people = a .people + b .people + c .people + d .people; above = ltb 0 (bitOr (bitOr (bitOr (a .above) (b .above)) (c .above)) (d .above)) } ≡ rowSum counts bits limit
       lanes-all =
           let p = sym (sum-columns (markedCount counts bits) 16) in
-          let t = ap (ltb 0) above-is ∙ as-test (ltb limit (maxBelow (markedCount counts bits) rowCells)) in
+          let t = ap (ltb 0) above-is ∙ as-test (ltb limit (maxBelow (markedCount counts bits) mapColumns)) in
           rw (ea, eb, ec, ed) (λ i. record { people = p i; above = t i })
         where
           as-test : (t : Bool) → ltb 0 (cond t 1 0) ≡ t
           as-test true = refl
           as-test false = refl
 
-      pub people-le : a .people + b .people + c .people + d .people ≤ rowCells * largestCount
-      people-le = omega (arith, ap (λ (x : RowSum). x .people) lanes-all, sum-le (markedCount counts bits) largestCount rowCells marked-small)
+      pub people-le : a .people + b .people + c .people + d .people ≤ mapColumns * largestCount
+      people-le = omega (arith, ap (λ (x : RowSum). x .people) lanes-all, sum-le (markedCount counts bits) largestCount mapColumns marked-small)
 
 -- ---- a key above those before it
 
@@ -106,10 +106,10 @@ less-above w k =
 
 module _ (counts : List ℕ) (bits : ℕ) where
   -- the largest marked count is one less than the largest key
-  largest-marked : maxBelow (markedCount counts bits) rowCells ≡ maxBelow (rowKey counts bits) rowCells - 1
+  largest-marked : maxBelow (markedCount counts bits) mapColumns ≡ maxBelow (rowKey counts bits) mapColumns - 1
   largest-marked =
-      max-same (markedCount counts bits) (λ c. rowKey counts bits c - 1) rowCells (λ c l. each (bitAt bits c) (countAt counts c) (omega arith))
-      ∙ max-map (rowKey counts bits) (λ (x : ℕ). x - 1) refl (λ x y l. omega arith) rowCells
+      max-same (markedCount counts bits) (λ c. rowKey counts bits c - 1) mapColumns (λ c l. each (bitAt bits c) (countAt counts c) (omega arith))
+      ∙ max-map (rowKey counts bits) (λ (x : ℕ). x - 1) refl (λ x y l. omega arith) mapColumns
     where
       each : (m x : ℕ) → m < 2 → m * x ≡ m * (x + 1) - 1
       each zero x h = omega arith
@@ -117,12 +117,12 @@ module _ (counts : List ℕ) (bits : ℕ) where
       each (suc (suc m)) x h = let wrong : ⊥ = omega arith in absurd wrong
 
   module _ (worst : ℕ) {limit : ℕ} {sum : RowSum} (l : limit ≡ worst - 1) (s : sum ≡ rowSum counts bits limit) where
-    tested : sum .above ≡ ltb (worst - 1) (maxBelow (rowKey counts bits) rowCells - 1)
+    tested : sum .above ≡ ltb (worst - 1) (maxBelow (rowKey counts bits) mapColumns - 1)
     tested = ap (λ (x : RowSum). x .above) s ∙ ap₂ ltb l largest-marked
 
     -- where the test passed, the row's largest key is above `worst`, or both are 0
-    pub key-taken : (eqb worst 0 || sum .above) ≡ true → maxBelow (rowKey counts bits) rowCells ≡ keyAbove worst (maxBelow (rowKey counts bits) rowCells)
-    key-taken h = by-test worst (maxBelow (rowKey counts bits) rowCells) (sym (ap (λ (t : Bool). eqb worst 0 || t) tested) ∙ h)
+    pub key-taken : (eqb worst 0 || sum .above) ≡ true → maxBelow (rowKey counts bits) mapColumns ≡ keyAbove worst (maxBelow (rowKey counts bits) mapColumns)
+    key-taken h = by-test worst (maxBelow (rowKey counts bits) mapColumns) (sym (ap (λ (t : Bool). eqb worst 0 || t) tested) ∙ h)
       where
         by-test : (w k : ℕ) → (eqb w 0 || ltb (w - 1) (k - 1)) ≡ true → k ≡ keyAbove w k
         by-test zero zero t = refl
@@ -131,15 +131,15 @@ module _ (counts : List ℕ) (bits : ℕ) where
             let l = ltb-true (suc w - 1) (k - 1) (simp (ne-eqb (suc w) 0 (λ e. omega arith)) at t) in simp (lt-ltb (suc w) k (omega arith))
 
     -- where it failed, the row's largest key isn't above `worst`
-    pub key-left : (eqb worst 0 || sum .above) ≡ false → 0 ≡ keyAbove worst (maxBelow (rowKey counts bits) rowCells)
+    pub key-left : (eqb worst 0 || sum .above) ≡ false → 0 ≡ keyAbove worst (maxBelow (rowKey counts bits) mapColumns)
     key-left h =
-        let k = maxBelow (rowKey counts bits) rowCells in
+        let k = maxBelow (rowKey counts bits) mapColumns in
         let t = neither (eqb worst 0) (sum .above) h in
         let m = ltb-false (worst - 1) (k - 1) (sym tested ∙ t .1) in
         let some : worst ≡ 0 → ⊥ = eqb-false worst 0 (t .0) in
         simp (le-ltb worst k (omega arith))
 
-    pub row-is : bits < 2 ^ 64 → {key : ℕ} → key ≡ keyAbove worst (maxBelow (rowKey counts bits) rowCells)
+    pub row-is : bits < 2 ^ 64 → {key : ℕ} → key ≡ keyAbove worst (maxBelow (rowKey counts bits) mapColumns)
         → record { worst = key; people = sum .people; cells = ones bits } ≡ rowWalk counts bits worst
     row-is small t =
         let p = ap (λ (x : RowSum). x .people) s in
@@ -155,11 +155,11 @@ module _ (counts : List ℕ) where
 
   pub row-empty : (worst : ℕ) → record { worst = 0; people = 0; cells = 0 } ≡ rowWalk counts 0 worst
   row-empty worst =
-      let z : maxBelow (rowKey counts 0) rowCells ≡ 0 =
-      omega (arith, max-le (rowKey counts 0) 0 rowCells (λ c l. clear-le c (countAt counts c + 1))) in
-      let t : 0 ≡ keyAbove worst (maxBelow (rowKey counts 0) rowCells) = simp (z, le-ltb worst 0 (omega arith)) in
-      let p : 0 ≡ sumBelow (markedCount counts 0) rowCells =
-      omega (arith, sum-le (markedCount counts 0) 0 rowCells (λ c l. clear-le c (countAt counts c))) in
-      let k : 0 ≡ sumBelow (bitAt 0) rowCells =
-      omega (arith, sum-le (bitAt 0) 0 rowCells (λ c l. omega (arith, clear c))) in
+      let z : maxBelow (rowKey counts 0) mapColumns ≡ 0 =
+      omega (arith, max-le (rowKey counts 0) 0 mapColumns (λ c l. clear-le c (countAt counts c + 1))) in
+      let t : 0 ≡ keyAbove worst (maxBelow (rowKey counts 0) mapColumns) = simp (z, le-ltb worst 0 (omega arith)) in
+      let p : 0 ≡ sumBelow (markedCount counts 0) mapColumns =
+      omega (arith, sum-le (markedCount counts 0) 0 mapColumns (λ c l. clear-le c (countAt counts c))) in
+      let k : 0 ≡ sumBelow (bitAt 0) mapColumns =
+      omega (arith, sum-le (bitAt 0) 0 mapColumns (λ c l. omega (arith, clear c))) in
       λ i. record { worst = t i; people = p i; cells = k i }

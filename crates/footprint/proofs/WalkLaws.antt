@@ -13,7 +13,7 @@ use Rattle.arithmetic.specs.SumsAndMaxima.{sumBelow, maxBelow, firstMaxBelow}
 use Rattle.arithmetic.proofs.TestLaws.{any-none}
 use Rattle.arithmetic.proofs.PartLaws.{slice-length, slice-at}
 use Rattle.arithmetic.proofs.SumLaws.{sum-same, max-same, first-same, sum-add, max-add, first-next, sum-le, max-le, first-lt, first-at, max-rows, first-rows, firstInRow}
-use Rattle.footprint.specs.Map.{mapCells, mapRows, rowCells, largestCount, countAt, bitAt, markAt, keyAt, peopleAt, tableRow, highestRow, firstLargest, cellsIn, wrongCount, foundFootprint}
+use Rattle.footprint.specs.Map.{mapCells, mapRows, mapColumns, largestCount, countAt, bitAt, markAt, keyAt, peopleAt, tableRow, highestRow, firstLargest, cellsIn, wrongCount, foundFootprint}
 use Rattle.footprint.specs.Walk.{keyMax, rowKey, markedCount, keyAbove, rowWalk, withRow, largestKeyIn, mapWalk}
 use Rattle.footprint.specs.declared.row.RowWalk.{RowWalk}
 use Rattle.footprint.specs.declared.walk.MapWalk.{MapWalk}
@@ -29,41 +29,41 @@ counts-small counts h i l =
 
 module _ (counts marks : List ℕ) (r : ℕ) where
   abbrev pub lent : List ℕ
-  lent = part counts (rowCells * r) (rowCells * r + rowCells)
+  lent = part counts (mapColumns * r) (mapColumns * r + mapColumns)
 
-  pub lent-at : (i : ℕ) → i < rowCells → countAt lent i ≡ countAt counts (rowCells * r + i)
-  lent-at i l = slice-at counts (rowCells * r) rowCells i l
+  pub lent-at : (i : ℕ) → i < mapColumns → countAt lent i ≡ countAt counts (mapColumns * r + i)
+  lent-at i l = slice-at counts (mapColumns * r) mapColumns i l
 
-  pub lent-length : rowCells * r + rowCells ≤ length counts → length lent ≡ rowCells
-  lent-length h = slice-length counts (rowCells * r) rowCells h
+  pub lent-length : mapColumns * r + mapColumns ≤ length counts → length lent ≡ mapColumns
+  lent-length h = slice-length counts (mapColumns * r) mapColumns h
 
-  pub lent-small : r < mapRows → wrongCount counts ≡ false → (i : ℕ) → i < rowCells → countAt lent i ≤ largestCount
-  lent-small h s i l = omega (arith, lent-at i l, counts-small counts s (rowCells * r + i) (omega arith))
+  pub lent-small : r < mapRows → wrongCount counts ≡ false → (i : ℕ) → i < mapColumns → countAt lent i ≤ largestCount
+  lent-small h s i l = omega (arith, lent-at i l, counts-small counts s (mapColumns * r + i) (omega arith))
 
-  pub mark-here : (i : ℕ) → i < rowCells → bitAt (getD marks r 0) i ≡ markAt marks (rowCells * r + i)
+  pub mark-here : (i : ℕ) → i < mapColumns → bitAt (getD marks r 0) i ≡ markAt marks (mapColumns * r + i)
   mark-here i l =
-      let q : (rowCells * r + i) / rowCells ≡ r = omega arith in
-      let m : (rowCells * r + i) % rowCells ≡ i = omega arith in rw (q, m)
+      let q : (mapColumns * r + i) / mapColumns ≡ r = omega arith in
+      let m : (mapColumns * r + i) % mapColumns ≡ i = omega arith in rw (q, m)
 
-  key-here : (i : ℕ) → i < rowCells → rowKey lent (getD marks r 0) i ≡ keyAt counts marks (rowCells * r + i)
+  key-here : (i : ℕ) → i < mapColumns → rowKey lent (getD marks r 0) i ≡ keyAt counts marks (mapColumns * r + i)
   key-here i l = ap₂ (λ (m x : ℕ). m * (x + 1)) (mark-here i l) (lent-at i l)
 
-  pub first-here : firstMaxBelow (rowKey lent (getD marks r 0)) rowCells ≡ firstMaxBelow (λ c. keyAt counts marks (rowCells * r + c)) rowCells
-  first-here = first-same (rowKey lent (getD marks r 0)) (λ c. keyAt counts marks (rowCells * r + c)) rowCells key-here
+  pub first-here : firstMaxBelow (rowKey lent (getD marks r 0)) mapColumns ≡ firstMaxBelow (λ c. keyAt counts marks (mapColumns * r + c)) mapColumns
+  first-here = first-same (rowKey lent (getD marks r 0)) (λ c. keyAt counts marks (mapColumns * r + c)) mapColumns key-here
 
-  pub worst-here : maxBelow (rowKey lent (getD marks r 0)) rowCells ≡ largestKeyIn counts marks r
-  worst-here = max-same (rowKey lent (getD marks r 0)) (λ c. keyAt counts marks (rowCells * r + c)) rowCells key-here
+  pub worst-here : maxBelow (rowKey lent (getD marks r 0)) mapColumns ≡ largestKeyIn counts marks r
+  worst-here = max-same (rowKey lent (getD marks r 0)) (λ c. keyAt counts marks (mapColumns * r + c)) mapColumns key-here
 
   row-here : (worst : ℕ) → rowWalk lent (getD marks r 0) worst ≡ record {
     worst = keyAbove worst (largestKeyIn counts marks r);
-    people = sumBelow (λ c. markAt marks (rowCells * r + c) * countAt counts (rowCells * r + c)) rowCells;
-    cells = sumBelow (λ c. markAt marks (rowCells * r + c)) rowCells;
+    people = sumBelow (λ c. markAt marks (mapColumns * r + c) * countAt counts (mapColumns * r + c)) mapColumns;
+    cells = sumBelow (λ c. markAt marks (mapColumns * r + c)) mapColumns;
   }
   row-here worst =
       let t = ap (keyAbove worst) worst-here in
-      let p = sum-same (markedCount lent (getD marks r 0)) (λ c. markAt marks (rowCells * r + c) * countAt counts (rowCells * r + c)) rowCells
+      let p = sum-same (markedCount lent (getD marks r 0)) (λ c. markAt marks (mapColumns * r + c) * countAt counts (mapColumns * r + c)) mapColumns
       (λ i l. ap₂ (λ (m x : ℕ). m * x) (mark-here i l) (lent-at i l)) in
-      let k = sum-same (bitAt (getD marks r 0)) (λ c. markAt marks (rowCells * r + c)) rowCells mark-here in
+      let k = sum-same (bitAt (getD marks r 0)) (λ c. markAt marks (mapColumns * r + c)) mapColumns mark-here in
       λ i. record { worst = t i; people = p i; cells = k i }
 
   -- ---- the map with one row more
@@ -74,28 +74,28 @@ module _ (counts marks : List ℕ) (r : ℕ) where
       omega (
         arith,
         ap (λ (x : MapWalk). x .worst) e,
-        max-le (keyAt counts marks) keyMax (rowCells * r)
+        max-le (keyAt counts marks) keyMax (mapColumns * r)
             (λ i m. key-le (markAt marks i) (countAt counts i) (mark-lt marks i) (counts-small counts h i (omega arith))),
       )
 
   module _ {w : MapWalk} {b : RowWalk} (before : w ≡ mapWalk counts marks r) (row : b ≡ rowWalk lent (getD marks r 0) (w .worst)) where
     pub map-next : withRow w b r ≡ mapWalk counts marks (r + 1)
     map-next =
-        let e : rowCells * r + rowCells ≡ rowCells * (r + 1) = omega arith in
-        let t = max-above (maxBelow (keyAt counts marks) (rowCells * r)) (largestKeyIn counts marks r)
-        ∙ sym (max-add (keyAt counts marks) (rowCells * r) rowCells) ∙ ap (maxBelow (keyAt counts marks)) e in
-        let p = sym (sum-add (peopleAt counts marks) (rowCells * r) rowCells) ∙ ap (sumBelow (peopleAt counts marks)) e in
-        let k = sym (sum-add (markAt marks) (rowCells * r) rowCells) ∙ ap (sumBelow (markAt marks)) e in
-        let s = ap (λ (t : Bool). cond t r (firstMaxBelow (largestKeyIn counts marks) r)) (less-above (maxBelow (keyAt counts marks) (rowCells * r)) (largestKeyIn counts marks r))
-        ∙ ap (λ (x : ℕ). cond (ltb x (largestKeyIn counts marks r)) r (firstMaxBelow (largestKeyIn counts marks) r)) (sym (max-rows (keyAt counts marks) rowCells r))
+        let e : mapColumns * r + mapColumns ≡ mapColumns * (r + 1) = omega arith in
+        let t = max-above (maxBelow (keyAt counts marks) (mapColumns * r)) (largestKeyIn counts marks r)
+        ∙ sym (max-add (keyAt counts marks) (mapColumns * r) mapColumns) ∙ ap (maxBelow (keyAt counts marks)) e in
+        let p = sym (sum-add (peopleAt counts marks) (mapColumns * r) mapColumns) ∙ ap (sumBelow (peopleAt counts marks)) e in
+        let k = sym (sum-add (markAt marks) (mapColumns * r) mapColumns) ∙ ap (sumBelow (markAt marks)) e in
+        let s = ap (λ (t : Bool). cond t r (firstMaxBelow (largestKeyIn counts marks) r)) (less-above (maxBelow (keyAt counts marks) (mapColumns * r)) (largestKeyIn counts marks r))
+        ∙ ap (λ (x : ℕ). cond (ltb x (largestKeyIn counts marks r)) r (firstMaxBelow (largestKeyIn counts marks) r)) (sym (max-rows (keyAt counts marks) mapColumns r))
         ∙ sym (first-next (largestKeyIn counts marks) r) in
-        ap₂ (λ (x : MapWalk) (y : RowWalk). withRow x y r) before (row ∙ ap (λ (x : MapWalk). rowWalk lent (getD marks r 0) (x .worst)) before ∙ row-here (maxBelow (keyAt counts marks) (rowCells * r))) ∙ (λ i. record { worst = t i; row = s i; people = p i; cells = k i })
+        ap₂ (λ (x : MapWalk) (y : RowWalk). withRow x y r) before (row ∙ ap (λ (x : MapWalk). rowWalk lent (getD marks r 0) (x .worst)) before ∙ row-here (maxBelow (keyAt counts marks) (mapColumns * r))) ∙ (λ i. record { worst = t i; row = s i; people = p i; cells = k i })
 
     -- the sums fit their types
     pub map-fits : r < mapRows → ((p : ℕ) → countAt counts p < 2 ^ 32) → (w .people + b .people < 2 ^ 64) × (w .cells + b .cells < 2 ^ 32)
     map-fits l h = (
-      omega (arith, ap (λ (x : MapWalk). x .people) map-next, sum-le (peopleAt counts marks) (2 ^ 32) (rowCells * (r + 1)) (λ i m. le-trans (marked-le (markAt marks i) (countAt counts i) (mark-lt marks i)) (omega (arith, h i)))),
-      omega (arith, ap (λ (x : MapWalk). x .cells) map-next, sum-le (markAt marks) 1 (rowCells * (r + 1)) (λ i m. le-of-suc-le-suc (mark-lt marks i))),
+      omega (arith, ap (λ (x : MapWalk). x .people) map-next, sum-le (peopleAt counts marks) (2 ^ 32) (mapColumns * (r + 1)) (λ i m. le-trans (marked-le (markAt marks i) (countAt counts i) (mark-lt marks i)) (omega (arith, h i)))),
+      omega (arith, ap (λ (x : MapWalk). x .cells) map-next, sum-le (markAt marks) 1 (mapColumns * (r + 1)) (λ i m. le-of-suc-le-suc (mark-lt marks i))),
     )
 
 -- ---- the answer, from the walk over all rows
@@ -123,26 +123,26 @@ module _ (counts marks : List ℕ) {w : MapWalk} (w-is : w ≡ mapWalk counts ma
         ap (rowOfKey area) (e ∙ ap (λ (x : MapWalk). x .worst) w-is)
         ∙ sym (row-of-largest area (markAt marks) (countAt counts) (mark-lt marks) mapCells)
 
-    place-all : rowCells * w .row + firstMaxBelow (rowKey (lent counts marks (w .row)) (getD marks (w .row) 0)) rowCells ≡ firstLargest counts marks
+    place-all : mapColumns * w .row + firstMaxBelow (rowKey (lent counts marks (w .row)) (getD marks (w .row) 0)) mapColumns ≡ firstLargest counts marks
     place-all =
-        ap (λ (x : ℕ). rowCells * w .row + x) (first-here counts marks (w .row))
-        ∙ ap (firstInRow (keyAt counts marks) rowCells) (ap (λ (x : MapWalk). x .row) w-is)
-        ∙ sym (first-rows (keyAt counts marks) rowCells mapRows (omega (arith, worst-pos, ap (λ (x : MapWalk). x .worst) w-is)))
+        ap (λ (x : ℕ). mapColumns * w .row + x) (first-here counts marks (w .row))
+        ∙ ap (firstInRow (keyAt counts marks) mapColumns) (ap (λ (x : MapWalk). x .row) w-is)
+        ∙ sym (first-rows (keyAt counts marks) mapColumns mapRows (omega (arith, worst-pos, ap (λ (x : MapWalk). x .worst) w-is)))
 
     -- the first worst row's largest key is the map's
-    pub worst-is : w .worst ≡ maxBelow (rowKey (lent counts marks (w .row)) (getD marks (w .row) 0)) rowCells
+    pub worst-is : w .worst ≡ maxBelow (rowKey (lent counts marks (w .row)) (getD marks (w .row) 0)) mapColumns
     worst-is =
         let all : w .worst ≡ maxBelow (largestKeyIn counts marks) mapRows =
-        ap (λ (x : MapWalk). x .worst) w-is ∙ sym (max-rows (keyAt counts marks) rowCells mapRows) in
+        ap (λ (x : MapWalk). x .worst) w-is ∙ sym (max-rows (keyAt counts marks) mapColumns mapRows) in
         all ∙ sym (first-at (largestKeyIn counts marks) mapRows (omega (arith, worst-pos, all)))
         ∙ ap (largestKeyIn counts marks) (sym (ap (λ (x : MapWalk). x .row) w-is))
         ∙ sym (worst-here counts marks (w .row))
 
     pub answer : (area : ℕ) {row column : ℕ} → row ≡ tableRow (w .worst - 1) area
-        → column ≡ firstMaxBelow (rowKey (lent counts marks (w .row)) (getD marks (w .row) 0)) rowCells
-        → record { refusal = 0; row = row; place = rowCells * w .row + column; people = w .people; cells = w .cells } ≡ foundFootprint counts marks area
+        → column ≡ firstMaxBelow (rowKey (lent counts marks (w .row)) (getD marks (w .row) 0)) mapColumns
+        → record { refusal = 0; row = row; place = mapColumns * w .row + column; people = w .people; cells = w .cells } ≡ foundFootprint counts marks area
     answer area er ec =
         let r = er ∙ row-all area in
-        let p = ap (λ (x : ℕ). rowCells * w .row + x) ec ∙ place-all in
+        let p = ap (λ (x : ℕ). mapColumns * w .row + x) ec ∙ place-all in
         let s = ap (λ (x : MapWalk). x .people) w-is in
         λ i. record { refusal = 0; row = r i; place = p i; people = s i; cells = cells-all i }

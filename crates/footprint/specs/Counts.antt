@@ -4,11 +4,11 @@ use mathlib.Core.List.{List}
 use Prim.Native.Nat.{ℕ, _+_}
 use Rattle.arithmetic.specs.Tests.{anyBelow}
 use Rattle.arithmetic.specs.BitwiseOr.{orBelow}
-use Rattle.footprint.specs.Map.{rowCells, countAt, aboveRange}
+use Rattle.footprint.specs.Map.{mapColumns, countAt, aboveRange}
 
 -- one of a map row's 64 counts is above its range
 abbrev pub wrongRow : List ℕ → Bool
-wrongRow counts = anyBelow (aboveRange counts) rowCells
+wrongRow counts = anyBelow (aboveRange counts) mapColumns
 
 -- the count at a place, raised
 abbrev pub raised : List ℕ → ℕ → ℕ → ℕ
@@ -16,4 +16,4 @@ raised counts raise place = countAt counts place + raise
 
 -- the bitwise or of a map row's 64 counts, each raised by the same number
 abbrev pub rowOr : List ℕ → ℕ → ℕ
-rowOr counts raise = orBelow (raised counts raise) rowCells
+rowOr counts raise = orBelow (raised counts raise) mapColumns

@@ -8,7 +8,7 @@ use Rattle.arithmetic.specs.Tests.{outside, anyBelow}
 use Rattle.arithmetic.specs.SumsAndMaxima.{sumBelow, maxBelow, firstMaxBelow}
 use Rattle.footprint.specs.declared.Footprint.{Footprint}
 -- "A map is 64 rows of 64 cells", "lent as 4,096 32-bit numbers, row after row"
-pub use Rattle.arithmetic.specs.MapSize.{mapRows, mapColumns as rowCells, mapCells}
+pub use Rattle.arithmetic.specs.MapSize.{mapRows, mapColumns, mapCells}
 
 -- "one head count (0 to 1,000,000) a cell"
 abbrev pub largestCount : ℕ
@@ -31,7 +31,7 @@ bitAt bits column = bits / 2 ^ (63 - column) % 2
 
 -- 1 where the cell at a place is marked, else 0
 abbrev pub markAt : List ℕ → ℕ → ℕ
-markAt marks place = bitAt (getD marks (place / rowCells) 0) (place % rowCells)
+markAt marks place = bitAt (getD marks (place / mapColumns) 0) (place % mapColumns)
 
 -- in square metres
 abbrev pub squareKilometre : ℕ

@@ -6,7 +6,7 @@ use Prim.Native.Nat.{ℕ, _+_, _-_, _*_, _/_, _%_, _^_, _<_, max}
 use lib.Dec.{ltb}
 use lib.ListN.{length, getD}
 use Rattle.arithmetic.specs.SumsAndMaxima.{sumBelow, maxBelow, firstMaxBelow}
-use Rattle.footprint.specs.Map.{rowCells, largestCount, countAt, bitAt, markAt, keyAt, peopleAt}
+use Rattle.footprint.specs.Map.{mapColumns, largestCount, countAt, bitAt, markAt, keyAt, peopleAt}
 use Rattle.footprint.specs.declared.row.Lane.{Lane}
 use Rattle.footprint.specs.declared.row.RowSum.{RowSum}
 use Rattle.footprint.specs.declared.row.RowWalk.{RowWalk}
@@ -51,8 +51,8 @@ laneOf counts bits limit j n = record {
 -- a map row's people, and whether a marked count is above a limit
 abbrev pub rowSum : List ℕ → ℕ → ℕ → RowSum
 rowSum counts bits limit = record {
-  people = sumBelow (markedCount counts bits) rowCells;
-  above = ltb limit (maxBelow (markedCount counts bits) rowCells);
+  people = sumBelow (markedCount counts bits) mapColumns;
+  above = ltb limit (maxBelow (markedCount counts bits) mapColumns);
 }
 
 -- a key where it is above the largest key so far, else 0
@@ -62,9 +62,9 @@ keyAbove worst key = cond (ltb worst key) key 0
 -- one map row: its 64 counts and its footprint row, after rows whose largest key is `worst`
 abbrev pub rowWalk : List ℕ → ℕ → ℕ → RowWalk
 rowWalk counts bits worst = record {
-  worst = keyAbove worst (maxBelow (rowKey counts bits) rowCells);
-  people = sumBelow (markedCount counts bits) rowCells;
-  cells = sumBelow (bitAt bits) rowCells;
+  worst = keyAbove worst (maxBelow (rowKey counts bits) mapColumns);
+  people = sumBelow (markedCount counts bits) mapColumns;
+  cells = sumBelow (bitAt bits) mapColumns;
 }
 
 -- the rows before the row r, and the row r
@@ -78,13 +78,13 @@ withRow w b r = record {
 
 -- the largest key of the map's row r
 abbrev pub largestKeyIn : List ℕ → List ℕ → ℕ → ℕ
-largestKeyIn counts marks r = maxBelow (λ c. keyAt counts marks (rowCells * r + c)) rowCells
+largestKeyIn counts marks r = maxBelow (λ c. keyAt counts marks (mapColumns * r + c)) mapColumns
 
 -- the first n map rows
 abbrev pub mapWalk : List ℕ → List ℕ → ℕ → MapWalk
 mapWalk counts marks n = record {
-  worst = maxBelow (keyAt counts marks) (rowCells * n);
+  worst = maxBelow (keyAt counts marks) (mapColumns * n);
   row = firstMaxBelow (largestKeyIn counts marks) n;
-  people = sumBelow (peopleAt counts marks) (rowCells * n);
-  cells = sumBelow (markAt marks) (rowCells * n);
+  people = sumBelow (peopleAt counts marks) (mapColumns * n);
+  cells = sumBelow (markAt marks) (mapColumns * n);
 }

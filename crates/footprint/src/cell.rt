@@ -2,7 +2,7 @@
 ghost use mathlib.Core.Path.{_≡_};
 ghost use Prim.Native.Nat.{_+_, _*_, _<_, _≤_};
 ghost use lib.ListN.{length};
-ghost use Rattle.footprint.specs.Map.{rowCells, largestCount, bitAt, belowDensity, tableRow};
+ghost use Rattle.footprint.specs.Map.{mapColumns, largestCount, bitAt, belowDensity, tableRow};
 ghost use Rattle.footprint.specs.Walk.{Masks, markedCount};
 
 // The square metres of a square kilometre.
@@ -39,7 +39,7 @@ pub(crate) fn table_row(people: u32, area: u32) -> u8
 
 // A cell's key: one more than its count where it is marked, else 0, so that any marked cell is above any other, with no branch.
 pub(crate) fn key(bits: u64, column: usize, count: u32) -> u32
-    requires { ⌜ (column < rowCells) × (count ≤ largestCount) ⌝ }
+    requires { ⌜ (column < mapColumns) × (count ≤ largestCount) ⌝ }
     ensures { λ r. ⌜ r ≡ bitAt bits column * (count + 1) ⌝ }
 {
     let k = count + 1;
@@ -75,7 +75,7 @@ pub(crate) const MASKS: [[u32; 4]; 16] = [
 
 // The count of a map row's cell 4 * k + j where it is marked, else 0. Four masks are one vector in memory; four bits would be tested one by one.
 pub(crate) fn marked_count(masks: &[[u32; 4]], counts: &[u32], bits: u64, k: usize, j: usize) -> u32
-    requires { ⌜ Masks (now masks) × (length (now counts) ≡ rowCells) × (k < 16) × (j < 4) ⌝ }
+    requires { ⌜ Masks (now masks) × (length (now counts) ≡ mapColumns) × (k < 16) × (j < 4) ⌝ }
     ensures { λ r. ⌜ r ≡ markedCount (now (counts .entry)) bits (4 * k + j) ⌝ }
 {
     let four = ((bits >> (60 - 4 * k)) % 16) as usize;

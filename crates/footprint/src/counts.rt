@@ -4,7 +4,7 @@ use crate::ROW_CELLS;
 ghost use mathlib.Core.Path.{_≡_};
 ghost use Prim.Native.Nat.{ℕ, _^_, _<_};
 ghost use lib.ListN.{length};
-ghost use Rattle.footprint.specs.Map.{mapCells, rowCells, wrongCount};
+ghost use Rattle.footprint.specs.Map.{mapCells, mapColumns, wrongCount};
 ghost use Rattle.footprint.specs.Counts.{wrongRow, raised, rowOr};
 
 // The range of a head count ends here; it starts at 0.
@@ -16,7 +16,7 @@ const RAISE: u32 = FIRST_OF_21_BITS - 1 - LARGEST_COUNT;
 
 // The bitwise or of a map row's counts, each raised: at most two machine instructions for four counts, where a comparison takes more.
 fn row_or(counts: &[u32], raise: u32) -> u32
-    requires { ⌜ (length (now counts) ≡ rowCells) × ((i : ℕ) → i < rowCells → raised (now counts) raise i < 2 ^ 32) ⌝ }
+    requires { ⌜ (length (now counts) ≡ mapColumns) × ((i : ℕ) → i < mapColumns → raised (now counts) raise i < 2 ^ 32) ⌝ }
     ensures { λ r. ⌜ r ≡ rowOr (now (counts .entry)) raise ⌝ }
 {
     let mut all: u32 = 0;
@@ -30,7 +30,7 @@ fn row_or(counts: &[u32], raise: u32) -> u32
 
 // Whether any count of a map row is above its range. No count is compared by itself.
 fn wrong_row(counts: &[u32]) -> bool
-    requires { ⌜ length (now counts) ≡ rowCells ⌝ }
+    requires { ⌜ length (now counts) ≡ mapColumns ⌝ }
     ensures { λ r. ⌜ r ≡ wrongRow (now (counts .entry)) ⌝ }
 {
     let all = row_or(counts, 0);

@@ -7,7 +7,7 @@ ghost use mathlib.Core.Path.{_≡_};
 ghost use Prim.Native.Nat.{ℕ, _+_, _^_, _<_, _≤_, max};
 ghost use lib.ListN.{length};
 ghost use Rattle.arithmetic.specs.SumsAndMaxima.{maxBelow, firstMaxBelow};
-ghost use Rattle.footprint.specs.Map.{rowCells, largestCount, countAt};
+ghost use Rattle.footprint.specs.Map.{mapColumns, largestCount, countAt};
 ghost use Rattle.footprint.specs.Walk.{Masks, keyMax, rowKey, withCell, rowSum, rowWalk};
 
 // A step over a map row takes four cells.
@@ -53,7 +53,7 @@ fn with_cell(lane: Lane, limit: u32, n: u32) -> Lane
 
 // The people of a map row, and whether a marked count is above `limit`. Four lanes, so that the compiler makes a vector of a step's four cells.
 fn sum_row(masks: &[[u32; 4]], counts: &[u32], bits: u64, limit: u32) -> RowSum
-    requires { ⌜ Masks (now masks) × (length (now counts) ≡ rowCells) × ((i : ℕ) → i < rowCells → countAt (now counts) i ≤ largestCount) × (limit ≤ largestCount) ⌝ }
+    requires { ⌜ Masks (now masks) × (length (now counts) ≡ mapColumns) × ((i : ℕ) → i < mapColumns → countAt (now counts) i ≤ largestCount) × (limit ≤ largestCount) ⌝ }
     ensures { λ r. ⌜ r ≡ rowSum (now (counts .entry)) bits limit ⌝ }
 {
     let mut a = Lane {
@@ -79,8 +79,8 @@ fn sum_row(masks: &[[u32; 4]], counts: &[u32], bits: u64, limit: u32) -> RowSum
 
 // The largest key of a map row.
 fn largest_key(counts: &[u32], bits: u64) -> u32
-    requires { ⌜ (length (now counts) ≡ rowCells) × ((i : ℕ) → i < rowCells → countAt (now counts) i ≤ largestCount) ⌝ }
-    ensures { λ r. ⌜ r ≡ maxBelow (rowKey (now (counts .entry)) bits) rowCells ⌝ }
+    requires { ⌜ (length (now counts) ≡ mapColumns) × ((i : ℕ) → i < mapColumns → countAt (now counts) i ≤ largestCount) ⌝ }
+    ensures { λ r. ⌜ r ≡ maxBelow (rowKey (now (counts .entry)) bits) mapColumns ⌝ }
 {
     let mut worst: u32 = 0;
     let mut c: usize = 0;
@@ -93,7 +93,7 @@ fn largest_key(counts: &[u32], bits: u64) -> u32
 
 // A map row after rows whose largest key is `worst`. Its own is looked for only where a marked count says that it is larger, or where no cell before is marked.
 pub(crate) fn walk_row(masks: &[[u32; 4]], counts: &[u32], bits: u64, worst: u32) -> RowWalk
-    requires { ⌜ Masks (now masks) × (length (now counts) ≡ rowCells) × ((i : ℕ) → i < rowCells → countAt (now counts) i ≤ largestCount) × (worst ≤ keyMax) ⌝ }
+    requires { ⌜ Masks (now masks) × (length (now counts) ≡ mapColumns) × ((i : ℕ) → i < mapColumns → countAt (now counts) i ≤ largestCount) × (worst ≤ keyMax) ⌝ }
     ensures { λ r. ⌜ r ≡ rowWalk (now (counts .entry)) bits worst ⌝ }
 {
     if bits == 0 {
@@ -122,8 +122,8 @@ pub(crate) fn walk_row(masks: &[[u32; 4]], counts: &[u32], bits: u64, worst: u32
 
 // The first marked cell of a map row with the row's largest key.
 pub(crate) fn first_worst(counts: &[u32], bits: u64, worst: u32) -> usize
-    requires { ⌜ (length (now counts) ≡ rowCells) × ((i : ℕ) → i < rowCells → countAt (now counts) i ≤ largestCount) × (0 < worst) × (worst ≡ maxBelow (rowKey (now counts) bits) rowCells) ⌝ }
-    ensures { λ r. ⌜ r ≡ firstMaxBelow (rowKey (now (counts .entry)) bits) rowCells ⌝ }
+    requires { ⌜ (length (now counts) ≡ mapColumns) × ((i : ℕ) → i < mapColumns → countAt (now counts) i ≤ largestCount) × (0 < worst) × (worst ≡ maxBelow (rowKey (now counts) bits) mapColumns) ⌝ }
+    ensures { λ r. ⌜ r ≡ firstMaxBelow (rowKey (now (counts .entry)) bits) mapColumns ⌝ }
 {
     let mut c: usize = 0;
     while c < ROW_CELLS {

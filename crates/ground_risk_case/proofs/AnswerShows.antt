@@ -11,7 +11,7 @@ use Rattle.arithmetic.proofs.TestLaws.{cond-le}
 use Rattle.assessment.specs.declared.Assessment.{Assessment}
 use Rattle.assessment.specs.Assessment.{refusedAssessment}
 use Rattle.assessment.proofs.GivenOrZero.{assessment-is-given-or-zero}
-use Rattle.case_text.specs.Layout.{rows, cells, textLength}
+use Rattle.case_text.specs.Layout.{mapRows, mapCells, textLength}
 use Rattle.case_text.specs.Text.{isText, headOf, marksOf, countsOf, readingRefusal}
 use Rattle.frame.specs.Layout.{frameLength}
 use Rattle.frame.specs.FrameLaw.{refusalIn}
@@ -38,7 +38,7 @@ module _ (t : List ℕ) (counts marks : ℕ) where
 
   reading-listed : readingRefusal t counts marks ≤ 14
   unfolding readingRefusal
-  reading-listed = numbers (not (eqb (length t) textLength)) (not (eqb counts cells) || not (eqb marks rows)) (not (isText t))
+  reading-listed = numbers (not (eqb (length t) textLength)) (not (eqb counts mapCells) || not (eqb marks mapRows)) (not (isText t))
 
   outcome-listed : outcomeOf t counts marks .refusal ≤ 14
   unfolding outcomeOf

@@ -30,7 +30,7 @@ use Rattle.assessment.specs.declared.Assessment.{Assessment}
 use Rattle.assessment.specs.Working.{afterClass, afterFootprint, workingOn}
 use Rattle.assessment.specs.Assessment.{assessedBy, assessmentOf}
 use Rattle.case_text.specs.declared.CaseHead.{CaseHead}
-use Rattle.case_text.specs.Layout.{rows, cells}
+use Rattle.case_text.specs.Layout.{mapRows, mapCells}
 use Rattle.case_text.specs.Text.{countsOf, marksOf, readingRefusal}
 use Rattle.case_text.specs.TextLaw.{CaseFields, textOf, fieldsOf as fieldsIn, Fits}
 use Rattle.case_text.proofs.TextLawHolds.{text-law}
@@ -55,7 +55,7 @@ p16-assessment : (counts marks : List ℕ) → P16Map counts marks →
 unfolding assessmentOf assessedBy workingOn afterFootprint afterClass sheetOf linesOf withLines flagOf columnOf columnBy areaOf totalOf savingOf runOf divUp intrinsicClassOf classRefusal classAt finalClassOf mitigationRefusal creditAt anyBelow
 p16-assessment counts marks h = rw (p16-footprint counts marks h)
 
-p16-told : (t : List ℕ) → P16Text t → told (outcomeOf t cells rows) ≡ record { refusal = 0; fields = p16Fields }
+p16-told : (t : List ℕ) → P16Text t → told (outcomeOf t mapCells mapRows) ≡ record { refusal = 0; fields = p16Fields }
 unfolding outcomeOf assessmentIn
 p16-told t h =
     simp (eq-eqb _ _ (h .read))
@@ -66,14 +66,14 @@ p16-line : printed 0 p16Fields ≡ p16Line
 unfolding printed
 p16-line = worked-lines .p16
 
-p16-printed : (t : List ℕ) → P16Text t → printed (outcomeOf t cells rows .refusal) (printedFields (outcomeOf t cells rows)) ≡ p16Line
+p16-printed : (t : List ℕ) → P16Text t → printed (outcomeOf t mapCells mapRows .refusal) (printedFields (outcomeOf t mapCells mapRows)) ≡ p16Line
 p16-printed t h = ap (λ (x : Told). printed (x .refusal) (x .fields)) (p16-told t h) ∙ p16-line
 
-p16-answer : (t : List ℕ) → P16Text t → (frame : List ℕ) → frameLength ≤ length frame → caseAnswer t cells rows (length frame) ≡ 0
+p16-answer : (t : List ℕ) → P16Text t → (frame : List ℕ) → frameLength ≤ length frame → caseAnswer t mapCells mapRows (length frame) ≡ 0
 unfolding caseAnswer
 p16-answer t h frame long = simp (le-ltb (length frame) frameLength long) (ap (λ (x : Told). x .refusal) (p16-told t h))
 
-p16-bytes : (t : List ℕ) → P16Text t → (frame : List ℕ) → frameLength ≤ length frame → frameLeft t cells rows frame ≡ stored 0 p16Line frame
+p16-bytes : (t : List ℕ) → P16Text t → (frame : List ℕ) → frameLength ≤ length frame → frameLeft t mapCells mapRows frame ≡ stored 0 p16Line frame
 unfolding frameLeft framed
 p16-bytes t h frame long = simp (le-ltb (length frame) frameLength long) (ap (λ (l : List ℕ). stored 0 l frame) (p16-printed t h))
 
@@ -100,24 +100,24 @@ p16-fits =
       cell-area = lit≤ tt;
       controlled = lit≤ tt;
       word = lit≤ tt;
-      marks-long = length-tabulate _ rows;
-      mark = λ k l. omega (arith, only-le (2 ^ 63) rows k l);
-      counts-long = length-tabulate _ cells;
-      count = λ k l. omega (arith, only-le 8 cells k l);
+      marks-long = length-tabulate _ mapRows;
+      mark = λ k l. omega (arith, only-le (2 ^ 63) mapRows k l);
+      counts-long = length-tabulate _ mapCells;
+      count = λ k l. omega (arith, only-le 8 mapCells k l);
     }
 
-p16-map : P16Map (onlyFirst 8 cells) (onlyFirst (2 ^ 63) rows)
+p16-map : P16Map (onlyFirst 8 mapCells) (onlyFirst (2 ^ 63) mapRows)
 p16-map =
     record {
-      counts-length = length-tabulate _ cells;
-      marks-length = length-tabulate _ rows;
-      first-count = only-first 8 cells (lit≤ tt);
-      other-counts = only-others 8 cells;
-      first-marks = only-first (2 ^ 63) rows (lit≤ tt);
-      other-marks = only-others (2 ^ 63) rows;
+      counts-length = length-tabulate _ mapCells;
+      marks-length = length-tabulate _ mapRows;
+      first-count = only-first 8 mapCells (lit≤ tt);
+      other-counts = only-others 8 mapCells;
+      first-marks = only-first (2 ^ 63) mapRows (lit≤ tt);
+      other-marks = only-others (2 ^ 63) mapRows;
     }
 
-p16-read : readingRefusal (textOf p16Case) cells rows ≡ 0
+p16-read : readingRefusal (textOf p16Case) mapCells mapRows ≡ 0
 unfolding readingRefusal
 p16-read = simp (text-law .text-long p16Case, text-law .text-accepted p16Case)
 

@@ -11,7 +11,7 @@ use Rattle.sheet.specs.Points.{SheetPoint, SheetPointHolds, sheetPoints}
 use Rattle.footprint.specs.Points.{RowPoint, RowPointHolds, rowPoints, P16Map}
 use Rattle.risk_class.specs.Points.{FinalPoint, FinalPointHolds, finalPoints}
 use Rattle.case_text.specs.declared.CaseHead.{CaseHead}
-use Rattle.case_text.specs.Layout.{rows, cells}
+use Rattle.case_text.specs.Layout.{mapRows, mapCells}
 use Rattle.case_text.specs.Text.{headOf, marksOf, countsOf, readingRefusal}
 use Rattle.case_text.specs.TextLaw.{CaseFields, textOf}
 use Rattle.frame.specs.Layout.{frameLength}
@@ -25,7 +25,7 @@ p16Head =
 
 -- a text with that first line, the first footprint line 8000000000000000, the first count 8, "all else zero"
 pub record P16Text (t : List ℕ) : Type 0 where
-  pub read : readingRefusal t cells rows ≡ 0
+  pub read : readingRefusal t mapCells mapRows ≡ 0
   pub head : headOf t ≡ p16Head
   pub map : P16Map (countsOf t) (marksOf t)
 
@@ -34,14 +34,14 @@ abbrev pub onlyFirst : ℕ → ℕ → List ℕ
 onlyFirst x n = tabulate (λ i. cond (eqb i 0) x 0) n
 
 abbrev pub p16Case : CaseFields
-p16Case = record { head = p16Head; marks = onlyFirst (2 ^ 63) rows; counts = onlyFirst 8 cells }
+p16Case = record { head = p16Head; marks = onlyFirst (2 ^ 63) mapRows; counts = onlyFirst 8 mapCells }
 
 -- there is such a text; of each one the printed fields are those of P16's output, the answer is 0, and its line stands in the frame buffer
 pub record P16Holds : Type 0 where
   pub text : P16Text (textOf p16Case)
-  pub fields : (t : List ℕ) → P16Text t → printedFields (outcomeOf t cells rows) ≡ p16Fields
-  pub answer : (t : List ℕ) → P16Text t → (frame : List ℕ) → frameLength ≤ length frame → caseAnswer t cells rows (length frame) ≡ 0
-  pub bytes : (t : List ℕ) → P16Text t → (frame : List ℕ) → frameLength ≤ length frame → frameLeft t cells rows frame ≡ stored 0 p16Line frame
+  pub fields : (t : List ℕ) → P16Text t → printedFields (outcomeOf t mapCells mapRows) ≡ p16Fields
+  pub answer : (t : List ℕ) → P16Text t → (frame : List ℕ) → frameLength ≤ length frame → caseAnswer t mapCells mapRows (length frame) ≡ 0
+  pub bytes : (t : List ℕ) → P16Text t → (frame : List ℕ) → frameLength ≤ length frame → frameLeft t mapCells mapRows frame ≡ stored 0 p16Line frame
 
 pub data WorkedPoint : Type 0 where
   aircraft : SheetPoint → WorkedPoint

@@ -4,7 +4,7 @@ use native.Mathlib.Omega.{arith}
 use borrow.Author.Needs.{needs}
 use lib.ListN.{getD}
 use Rattle.arithmetic.proofs.SumLaws.{first-lt}
-use Rattle.footprint.specs.Map.{mapRows, rowCells, mapCells}
+use Rattle.footprint.specs.Map.{mapRows, mapColumns, mapCells}
 use Rattle.footprint.specs.Walk.{rowKey}
 use Rattle.footprint.proofs.WalkLaws as law
 use Rattle.footprint.proofs.found.Statement.{statement}
@@ -13,7 +13,7 @@ use Rattle.footprint.proofs.found.Tie as tie
 row-in : (c : tie.Start) → c .args .w .row < mapRows
 row-in c = law.row-lt (c .args .counts .now) (c .args .marks .now) (c .pre .3)
 
-place-in : (c : tie.After-first-worst) → rowCells * c .before .before .before .before .before .args .w .row + c .first-worst .result < mapCells
+place-in : (c : tie.After-first-worst) → mapColumns * c .before .before .before .before .before .args .w .row + c .first-worst .result < mapCells
 place-in c =
     let start = c .before .before .before .before .before in
     let args = start .args in
@@ -21,7 +21,7 @@ place-in c =
       arith,
       row-in start,
       c .first-worst .ensures,
-      first-lt (rowKey (law.lent (args .counts .now) (args .marks .now) (args .w .row)) (getD (args .marks .now) (args .w .row) 0)) rowCells (omega arith),
+      first-lt (rowKey (law.lent (args .counts .now) (args .marks .now) (args .w .row)) (getD (args .marks .now) (args .w .row) 0)) mapColumns (omega arith),
     )
 
 mul-from : tie.Need-mul-from

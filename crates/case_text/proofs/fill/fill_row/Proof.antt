@@ -5,7 +5,7 @@ use Prim.Native.Nat.{ℕ}
 use native.Mathlib.Omega.{arith}
 use denote.Ref.{now}
 use Rattle.arithmetic.specs.Lists.{tabulate}
-use Rattle.case_text.specs.Layout.{columns}
+use Rattle.case_text.specs.Layout.{mapColumns}
 use Rattle.case_text.specs.Text.{rowOf}
 use Rattle.case_text.proofs.ReadingLaws.{countIn, words-counts}
 use borrow.Author.Needs.{needs}
@@ -32,7 +32,7 @@ unfolding rowOf
 returns c =
     let start = c .before .before .before .before .before .before .before .before .before .before in
     c .before .before .fill-words .ensures
-    ∙ ap (λ (ws : List ℕ). tabulate (countIn ws) columns) (c .before .before .before .before .before .before .words-of .ensures)
+    ∙ ap (λ (ws : List ℕ). tabulate (countIn ws) mapColumns) (c .before .before .before .before .before .before .words-of .ensures)
     ∙ words-counts (now (start .args .line)) (λ i. omega (arith, c .before .before .before .before .before .before .before .before .before .shared-slice-known .given i))
 
 pub fill-row-spec : {M : Type 1} → statement M

@@ -5,16 +5,16 @@ use native.Mathlib.Omega.{arith}
 use lib.Bits.{bitOr}
 use Rattle.arithmetic.specs.BitwiseOr.{orBelow}
 use Rattle.arithmetic.proofs.OrLaws.{or-next}
-use Rattle.footprint.specs.Map.{rowCells}
+use Rattle.footprint.specs.Map.{mapColumns}
 use Rattle.footprint.specs.Counts.{raised}
 use Rattle.footprint.proofs.counts.row_or.Statement.{statement}
 use Rattle.footprint.proofs.counts.row_or.Tie as tie
 
 abbrev Inv-loop : tie.InvT-loop
-Inv-loop counts raise all₀ c₀ all c = (c ≤ rowCells) × (all ≡ orBelow (raised counts raise) c)
+Inv-loop counts raise all₀ c₀ all c = (c ≤ mapColumns) × (all ≡ orBelow (raised counts raise) c)
 
 abbrev μ-loop : tie.MeasureT-loop
-μ-loop counts raise all₀ c₀ all c = rowCells - c
+μ-loop counts raise all₀ c₀ all c = mapColumns - c
 
 loop-holds : tie.Need-loop-holds Inv-loop μ-loop
 unfolding orBelow
@@ -45,7 +45,7 @@ loop-again c =
 returns : tie.Need-returns Inv-loop μ-loop
 returns c =
     let start = c .before .before in
-    let past : c .before .loop .c ≡ rowCells = omega arith in
+    let past : c .before .loop .c ≡ mapColumns = omega arith in
     c .before .loop .inv .1 ∙ ap (orBelow (raised (start .args .counts .now) (start .args .raise))) past
 
 pub row-or-spec : {M : Type 1} → statement M

@@ -9,23 +9,23 @@ use Rattle.arithmetic.specs.Lists.{part}
 use Rattle.arithmetic.specs.Tests.{anyBelow}
 use Rattle.arithmetic.proofs.TestLaws.{any-same, any-add}
 use Rattle.arithmetic.proofs.PartLaws.{slice-length, slice-at}
-use Rattle.footprint.specs.Map.{mapRows, rowCells, largestCount, aboveRange}
+use Rattle.footprint.specs.Map.{mapRows, mapColumns, largestCount, aboveRange}
 use Rattle.footprint.specs.Counts.{wrongRow}
 use Rattle.footprint.proofs.counts.wrong_count.Statement.{statement}
 use Rattle.footprint.proofs.counts.wrong_count.Tie as tie
 
 -- one map row more, lent as a part of the counts
-row-next : (counts : List ℕ) (r : ℕ) → (anyBelow (aboveRange counts) (rowCells * r) || wrongRow (part counts (rowCells * r) (rowCells * r + rowCells))) ≡ anyBelow (aboveRange counts) (rowCells * (r + 1))
+row-next : (counts : List ℕ) (r : ℕ) → (anyBelow (aboveRange counts) (mapColumns * r) || wrongRow (part counts (mapColumns * r) (mapColumns * r + mapColumns))) ≡ anyBelow (aboveRange counts) (mapColumns * (r + 1))
 row-next counts r =
-    let from = rowCells * r in
-    let next : from + rowCells ≡ rowCells * (r + 1) = omega arith in
-    let row = any-same (aboveRange (part counts from (from + rowCells))) (λ i. aboveRange counts (from + i)) rowCells (λ i l. ap (ltb largestCount) (slice-at counts from rowCells i l)) in
+    let from = mapColumns * r in
+    let next : from + mapColumns ≡ mapColumns * (r + 1) = omega arith in
+    let row = any-same (aboveRange (part counts from (from + mapColumns))) (λ i. aboveRange counts (from + i)) mapColumns (λ i l. ap (ltb largestCount) (slice-at counts from mapColumns i l)) in
     ap (λ (x : Bool). anyBelow (aboveRange counts) from || x) row
-    ∙ sym (any-add (aboveRange counts) from rowCells)
+    ∙ sym (any-add (aboveRange counts) from mapColumns)
     ∙ ap (anyBelow (aboveRange counts)) next
 
 abbrev Inv-loop : tie.InvT-loop
-Inv-loop counts any₀ r₀ any r = (r ≤ mapRows) × (any ≡ anyBelow (aboveRange counts) (rowCells * r))
+Inv-loop counts any₀ r₀ any r = (r ≤ mapRows) × (any ≡ anyBelow (aboveRange counts) (mapColumns * r))
 
 abbrev μ-loop : tie.MeasureT-loop
 μ-loop counts any₀ r₀ any r = mapRows - r
@@ -54,7 +54,7 @@ part-wrong-row-end c = omega arith
 
 wrong-row-requires : tie.Need-wrong-row-requires Inv-loop μ-loop
 wrong-row-requires c κs =
-    slice-length (c .before .before .before .before .args .counts .now) (rowCells * c .before .before .loop .r) rowCells (omega arith)
+    slice-length (c .before .before .before .before .args .counts .now) (mapColumns * c .before .before .loop .r) mapColumns (omega arith)
 
 add-r : tie.Need-add-r Inv-loop μ-loop
 add-r c = omega arith
@@ -69,7 +69,7 @@ loop-again c =
 
 returns : tie.Need-returns Inv-loop μ-loop
 returns c =
-    let past : rowCells * c .before .loop .r ≡ rowCells * mapRows = omega arith in
+    let past : mapColumns * c .before .loop .r ≡ mapColumns * mapRows = omega arith in
     c .before .loop .inv .1 ∙ ap (anyBelow (aboveRange (c .before .before .before .args .counts .now))) past
 
 pub wrong-count-spec : {M : Type 1} → statement M

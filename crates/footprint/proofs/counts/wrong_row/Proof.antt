@@ -8,18 +8,18 @@ use borrow.Author.Tests.{ltb-false, le-ltb, leb-true, leb-false}
 use lib.Dec.{leb}
 use Rattle.arithmetic.proofs.TestLaws.{any-none, none-any}
 use Rattle.arithmetic.proofs.OrLaws.{le-or, or-below}
-use Rattle.footprint.specs.Map.{rowCells, largestCount, countAt, aboveRange}
+use Rattle.footprint.specs.Map.{mapColumns, largestCount, countAt, aboveRange}
 use Rattle.footprint.specs.Counts.{wrongRow, raised, rowOr}
 use Rattle.footprint.proofs.counts.wrong_row.Statement.{statement}
 use Rattle.footprint.proofs.counts.wrong_row.Tie as tie
 
 module _ (counts : List ℕ) (raise : ℕ) where
-  raised-le : (i : ℕ) → i < rowCells → raised counts raise i ≤ rowOr counts raise
-  raised-le = le-or (raised counts raise) rowCells
+  raised-le : (i : ℕ) → i < mapColumns → raised counts raise i ≤ rowOr counts raise
+  raised-le = le-or (raised counts raise) mapColumns
 
   none-above : rowOr counts raise ≤ largestCount + raise → wrongRow counts ≡ false
   none-above h =
-      none-any (aboveRange counts) rowCells (λ i l. le-ltb largestCount (countAt counts i) (omega (arith, raised-le i l)))
+      none-any (aboveRange counts) mapColumns (λ i l. le-ltb largestCount (countAt counts i) (omega (arith, raised-le i l)))
 
   some-above : largestCount + raise < 2 ^ 20 → 2 ^ 20 ≤ rowOr counts raise → wrongRow counts ≡ true
   some-above h k = by-test (wrongRow counts) refl
@@ -27,8 +27,8 @@ module _ (counts : List ℕ) (raise : ℕ) where
       by-test : (t : Bool) → wrongRow counts ≡ t → wrongRow counts ≡ true
       by-test true e = e
       by-test false e =
-          let in-range = any-none (aboveRange counts) rowCells e in
-          let few = or-below (raised counts raise) 20 rowCells (λ i l. omega (arith, ltb-false largestCount (countAt counts i) (in-range i l))) in
+          let in-range = any-none (aboveRange counts) mapColumns e in
+          let few = or-below (raised counts raise) 20 mapColumns (λ i l. omega (arith, ltb-false largestCount (countAt counts i) (in-range i l))) in
           let no : ⊥ = omega (arith, few) in absurd no
 
   -- the range's end raised to the last number of 20 bits

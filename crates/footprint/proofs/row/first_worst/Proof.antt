@@ -4,16 +4,16 @@ use Prim.Native.Nat.{ℕ, _≤_, _<_, _-_}
 use native.Mathlib.Omega.{arith}
 use borrow.Author.Count.{below-more}
 use Rattle.arithmetic.proofs.SumLaws.{first-is, first-found}
-use Rattle.footprint.specs.Map.{rowCells}
+use Rattle.footprint.specs.Map.{mapColumns}
 use Rattle.footprint.specs.Walk.{rowKey}
 use Rattle.footprint.proofs.row.first_worst.Statement.{statement}
 use Rattle.footprint.proofs.row.first_worst.Tie as tie
 
 abbrev Inv-loop : tie.InvT-loop
-Inv-loop counts bits worst c₀ c = (c ≤ rowCells) × ((k : ℕ) → k < c → rowKey counts bits k ≡ worst → ⊥)
+Inv-loop counts bits worst c₀ c = (c ≤ mapColumns) × ((k : ℕ) → k < c → rowKey counts bits k ≡ worst → ⊥)
 
 abbrev μ-loop : tie.MeasureT-loop
-μ-loop counts bits worst c₀ c = rowCells - c
+μ-loop counts bits worst c₀ c = mapColumns - c
 
 loop-holds : tie.Need-loop-holds Inv-loop μ-loop
 loop-holds c = (omega arith, λ k l. absurd (omega arith))
@@ -31,7 +31,7 @@ returns : tie.Need-returns Inv-loop μ-loop
 returns c =
     let at = c .before .before .before .before .loop in
     let start = c .before .before .before .before .before .before in
-    first-is (rowKey (start .args .counts .now) (start .args .bits)) rowCells (start .args .worst) (start .pre .2) (start .pre .3) (at .c) (omega arith) (sym (c .before .key .ensures) ∙ c .if1 .taken) (at .inv .1)
+    first-is (rowKey (start .args .counts .now) (start .args .bits)) mapColumns (start .args .worst) (start .pre .2) (start .pre .3) (at .c) (omega arith) (sym (c .before .key .ensures) ∙ c .if1 .taken) (at .inv .1)
 
 add-c : tie.Need-add-c Inv-loop μ-loop
 add-c c = omega arith
@@ -49,8 +49,8 @@ returns-2 : tie.Need-returns-2 Inv-loop μ-loop
 returns-2 c =
     let at = c .before .loop in
     let start = c .before .before .before in
-    let past : at .c ≡ rowCells = omega arith in
-    absurd (first-found (rowKey (start .args .counts .now) (start .args .bits)) rowCells (start .args .worst) (start .pre .2) (start .pre .3) (λ k l. at .inv .1 k (omega arith)) (omega arith))
+    let past : at .c ≡ mapColumns = omega arith in
+    absurd (first-found (rowKey (start .args .counts .now) (start .args .bits)) mapColumns (start .args .worst) (start .pre .2) (start .pre .3) (λ k l. at .inv .1 k (omega arith)) (omega arith))
 
 pub first-worst-spec : {M : Type 1} → statement M
 first-worst-spec =

@@ -4,17 +4,17 @@ use Prim.Native.Nat.{_-_, _≤_, max}
 use native.Mathlib.Omega.{arith}
 use Rattle.arithmetic.specs.SumsAndMaxima.{maxBelow}
 use Rattle.arithmetic.proofs.SumLaws.{max-next}
-use Rattle.footprint.specs.Map.{rowCells, countAt, bitAt}
+use Rattle.footprint.specs.Map.{mapColumns, countAt, bitAt}
 use Rattle.footprint.specs.Walk.{keyMax, rowKey}
 use Rattle.footprint.proofs.CellLaws.{key-le}
 use Rattle.footprint.proofs.row.largest_key.Statement.{statement}
 use Rattle.footprint.proofs.row.largest_key.Tie as tie
 
 abbrev Inv-loop : tie.InvT-loop
-Inv-loop counts bits worst₀ c₀ worst c = (c ≤ rowCells) × (worst ≡ maxBelow (rowKey counts bits) c) × (worst ≤ keyMax)
+Inv-loop counts bits worst₀ c₀ worst c = (c ≤ mapColumns) × (worst ≡ maxBelow (rowKey counts bits) c) × (worst ≤ keyMax)
 
 abbrev μ-loop : tie.MeasureT-loop
-μ-loop counts bits worst₀ c₀ worst c = rowCells - c
+μ-loop counts bits worst₀ c₀ worst c = mapColumns - c
 
 loop-holds : tie.Need-loop-holds Inv-loop μ-loop
 unfolding maxBelow
@@ -58,7 +58,7 @@ loop-again c =
 returns : tie.Need-returns Inv-loop μ-loop
 returns c =
     let args = c .before .before .before .args in
-    let past : c .before .loop .c ≡ rowCells = omega arith in
+    let past : c .before .loop .c ≡ mapColumns = omega arith in
     c .before .loop .inv .1 ∙ ap (maxBelow (rowKey (args .counts .now) (args .bits))) past
 
 pub largest-key-spec : {M : Type 1} → statement M

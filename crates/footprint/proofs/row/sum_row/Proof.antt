@@ -4,7 +4,7 @@ use Prim.Native.Nat.{ℕ, _+_, _-_, _*_, _^_, _≤_, _<_}
 use native.Mathlib.Omega.{arith}
 use lib.ListN.{length}
 use Rattle.arithmetic.specs.SumsAndMaxima.{sumBelow, maxBelow}
-use Rattle.footprint.specs.Map.{rowCells, largestCount}
+use Rattle.footprint.specs.Map.{mapColumns, largestCount}
 use Rattle.footprint.specs.Walk.{Masks, markedCount, withCell, laneOf}
 use Rattle.footprint.specs.declared.row.Lane.{Lane}
 use Rattle.footprint.proofs.RowLaws as law
@@ -31,7 +31,7 @@ cell start j k = markedCount (start .args .counts .now) (start .args .bits) (4 *
 
 module _ (c : tie.In-loop Inv-loop μ-loop) (j : ℕ) (l : j < 4) where
   -- what reading a cell asks
-  read : Masks (c .before .before .before .args .masks .now) × (length (c .before .before .before .args .counts .now) ≡ rowCells) × (c .before .loop .k < 16) × (j < 4)
+  read : Masks (c .before .before .before .args .masks .now) × (length (c .before .before .before .args .counts .now) ≡ mapColumns) × (c .before .loop .k < 16) × (j < 4)
   read = let start = c .before .before .before in (start .pre .0, start .pre .1, omega arith, l)
 
   module _ {x : Lane} {n : ℕ} (x-is : x ≡ lane (c .before .before .before) j (c .before .loop .k)) (n-is : n ≡ cell (c .before .before .before) j (c .before .loop .k)) where
@@ -94,7 +94,7 @@ after c =
     let past : at .k ≡ 16 = omega arith in
     (at .inv .1 ∙ ap (lane start 0) past, at .inv .2 ∙ ap (lane start 1) past, at .inv .3 ∙ ap (lane start 2) past, at .inv .4 ∙ ap (lane start 3) past)
 
-people-le : (c : tie.After-loop Inv-loop μ-loop) → let at = c .before .loop in at .a .people + at .b .people + at .c .people + at .d .people ≤ rowCells * largestCount
+people-le : (c : tie.After-loop Inv-loop μ-loop) → let at = c .before .loop in at .a .people + at .b .people + at .c .people + at .d .people ≤ mapColumns * largestCount
 people-le c =
     let start = c .before .before .before in
     let is = after c in
