@@ -6,3 +6,4 @@ pub mod ListLaws
 pub mod PartLaws
 pub mod EachLaws
 pub mod OrLaws
+pub mod RefusalLaws

@@ -6,3 +6,4 @@ pub mod Lists
 pub mod Each
 pub mod MapSize
 pub mod BitwiseOr
+pub mod Refusals

@@ -7,12 +7,11 @@ use borrow.Author.Tests.{eqb-true, eq-eqb}
 use lib.Dec.{eqb}
 use lib.IntN.{ℤ}
 use lib.Signed.{_≤ℤ_}
-use Rattle.arithmetic.proofs.TestLaws.{not-refused}
 use Rattle.footprint.specs.declared.Footprint.{Footprint}
-use Rattle.risk_class.specs.ClassTable.{outsideTable, classRefusal, intrinsicClassOf}
+use Rattle.risk_class.specs.ClassTable.{intrinsicClassOf}
 use Rattle.risk_class.specs.Mitigation.{finalClassOf}
 use Rattle.risk_class.specs.Promises.{LowerInTable}
-use Rattle.risk_class.proofs.ClassLaws.{InTable, in-table}
+use Rattle.risk_class.proofs.PromisesHold.{read}
 use Rattle.risk_class.proofs.Lower.{intrinsic-lower, working-lower}
 use Rattle.assessment.specs.Working.{given, notGiven, Working, endedBefore, endedAfter, wholeWorking, afterClass, afterFootprint, workingOn}
 use Rattle.assessment.specs.Demand3.{SameOrLower}
@@ -63,11 +62,6 @@ module _ (column class column′ class′ word : ℕ) (class-le : class′ ≤ c
             final = λ z q. absurd (not-given q);
           }
 
--- what an intrinsic class that is given says of its column, row and mark
-given-in-table : (column row controlled : ℕ) → intrinsicClassOf column row controlled .refusal ≡ 0 → InTable column row controlled
-unfolding intrinsicClassOf classRefusal
-given-in-table column row controlled h = in-table column row controlled (not-refused (outsideTable column row controlled) 8 _ h .0)
-
 module _ (column column′ : ℕ) (least : 1 ≤ column′) (most : column′ ≤ column) (controlled word : ℕ) where
   after-footprint : (row : ℕ) → SameOrLower (afterFootprint column row controlled word) (afterFootprint column′ row controlled word)
   unfolding afterFootprint
@@ -80,7 +74,7 @@ module _ (column column′ : ℕ) (least : 1 ≤ column′) (most : column′ �
 
       given-there : intrinsicClassOf column row controlled .refusal ≡ 0 → SameOrLower (afterClass column (intrinsicClassOf column row controlled .class) word) exact
       given-there h =
-          let r = given-in-table column row controlled h
+          let r = read column row controlled h
           in let l : LowerInTable column row controlled column′ row controlled =
           record { column-ge = least; column-le = most; row-ge = r .row-ge; row-le = omega arith; controlled-ge = omega arith; controlled-le = r .controlled-le }
           in let i = intrinsic-lower column row controlled column′ row controlled l h

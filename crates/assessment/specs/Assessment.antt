@@ -1,10 +1,11 @@
 -- An aircraft's assessment over a lent map: its sheet, its footprint and both classes, or the first refusal.
 use mathlib.Core.Bool.{cond}
-use mathlib.Core.List.{List}
+use mathlib.Core.List.{List, [], _∷_}
 use mathlib.Core.Path.{_≡_}
-use Prim.Native.Nat.{ℕ, _≤_}
+use Prim.Native.Nat.{ℕ}
 use lib.Dec.{eqb}
 use lib.IntN.{pos}
+use Rattle.arithmetic.specs.Refusals.{OneOf}
 use Rattle.sheet.specs.declared.Sheet.{Sheet}
 use Rattle.sheet.specs.Sheet.{zeroSheet, sheetOf}
 use Rattle.footprint.specs.declared.Footprint.{Footprint}
@@ -47,9 +48,13 @@ assessmentOf w m v counts marks area controlled word =
     (assessedBy (answer .sheet) footprint controlled (workingOn (answer .sheet .column) footprint controlled word))
     (refusedAssessment (answer .refusal))
 
--- the refusal is one of those that document 01 lists for sheet, footprint, class and mitigation; where it isn't 0 every other number is zero
+-- the refusals of sheet, footprint, class and mitigation
+abbrev pub assessmentRefusals : List ℕ
+assessmentRefusals = 1 ∷ 2 ∷ 3 ∷ 4 ∷ 5 ∷ 6 ∷ 7 ∷ 8 ∷ 9 ∷ 10 ∷ 11 ∷ 12 ∷ []
+
+-- the refusal is 0 or one of these; where it isn't 0 every other number is zero
 pub record AssessmentIsGivenOrZero (a : Assessment) : Type 0 where
-  pub listed : a .refusal ≤ 12
+  pub listed : OneOf (a .refusal) (0 ∷ assessmentRefusals)
   pub zero : (a .refusal ≡ 0 → ⊥) → a ≡ refusedAssessment (a .refusal)
 
 -- an assessment that isn't refused has every part given, and shows them

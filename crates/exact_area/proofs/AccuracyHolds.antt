@@ -1,5 +1,5 @@
 -- Demand 3 on areas and columns, of the answers of `sheetOf`.
-use mathlib.Core.Path.{_≡_, sym, _∙_}
+use mathlib.Core.Path.{_≡_, sym, ap, _∙_}
 use Prim.Native.Nat.{ℕ, suc, _-_, _≤_, _<_}
 use native.Mathlib.Nat.{mul-le-mul-right}
 use native.Mathlib.Omega.{arith}
@@ -9,11 +9,12 @@ use Rattle.arithmetic.proofs.FractionLaws.{plus-pos, times-pos}
 use Rattle.sheet.specs.Ranges.{InRange}
 use Rattle.sheet.specs.Lines.{Formula, whole, sixTenths, glideOnly, formulaOf}
 use Rattle.sheet.specs.Column.{limits, lastLimit, columnBy, columnOf, flagOf}
-use Rattle.sheet.specs.Sheet.{linesOf}
-use Rattle.sheet.specs.Acceptance.{RefusedExactlyWhen, SheetIsGivenOrZero}
+use Rattle.sheet.specs.Sheet.{linesOf, sheetOf}
+use Rattle.sheet.specs.declared.SheetAnswer.{SheetAnswer}
+use Rattle.sheet.specs.Acceptance.{RefusedExactlyWhen}
 use Rattle.sheet.proofs.FirstInTable.{FirstAt}
 use Rattle.sheet.proofs.ColumnLaws.{column-at, limit-found, column-in-table, flag-at-most-one, lines-column, lines-flag}
-use Rattle.sheet.proofs.Refusals.{refused-exactly-when, sheet-is-given-or-zero}
+use Rattle.sheet.proofs.AcceptanceHolds.{refused-exactly-when, sheet-promise}
 use Rattle.exact_area.specs.ExactArea.{exactGlide, speedTerm, massTerm, friction, exactSlide, halfWidth, wholeArea, exactBy, exactArea, exactColumn}
 use Rattle.exact_area.specs.Accuracy.{AreaIsAccurate, ColumnIsAccurate, AboveLastLimitLess7, SheetIsAccurate}
 use Rattle.exact_area.proofs.Between.{low-bound, high-bound}
@@ -103,16 +104,16 @@ columns w m v r fits =
 pub sheet-is-accurate : (w m v : ℕ) → SheetIsAccurate w m v
 sheet-is-accurate w m v =
     record {
-      area = λ e. rw (given .given e) (lines-area w m v (refusal .none .0 e .0));
-      column = λ e. rw (given .given e) (columns w m v (refusal .none .0 e .0) (refusal .none .0 e .1));
+      area = λ e. rw (given e) (lines-area w m v (refusal .none .0 e .0));
+      column = λ e. rw (given e) (columns w m v (refusal .none .0 e .0) (refusal .none .0 e .1));
       refusal-4 = λ e. four (refusal .four .0 e);
     }
   where
     refusal : RefusedExactlyWhen w m v
     refusal = refused-exactly-when w m v
 
-    given : SheetIsGivenOrZero w m v
-    given = sheet-is-given-or-zero w m v
+    given : sheetOf w m v .refusal ≡ 0 → sheetOf w m v .sheet ≡ linesOf w m v
+    given e = ap (λ (a : SheetAnswer). a .sheet) (sheet-promise w m v .if-accepted e)
 
     four : InRange w m v × (lastLimit < linesOf w m v .area .high) → AboveLastLimitLess7 w m v
     four h =

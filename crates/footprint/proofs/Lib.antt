@@ -2,5 +2,5 @@ pub mod CellLaws
 pub mod RowLaws
 pub mod WalkLaws
 pub mod AnswerLaws
-pub mod Promises
+pub mod PromisesHold
 pub mod PointsHold

@@ -1,10 +1,11 @@
 -- Document 01, "The footprint on the map".
 use mathlib.Core.Bool.{Bool, cond, not, _||_}
-use mathlib.Core.List.{List}
+use mathlib.Core.List.{List, [], _∷_}
 use Prim.Native.Nat.{ℕ, _+_, _-_, _*_, _/_, _%_, _^_}
 use lib.Dec.{ltb, eqb}
 use lib.ListN.{length, getD}
 use Rattle.arithmetic.specs.Tests.{outside, anyBelow}
+use Rattle.arithmetic.specs.Refusals.{Test, _when_, answered}
 use Rattle.arithmetic.specs.SumsAndMaxima.{sumBelow, maxBelow, firstMaxBelow}
 use Rattle.footprint.specs.declared.Footprint.{Footprint}
 -- "A map is 64 rows of 64 cells", "lent as 4,096 32-bit numbers, row after row"
@@ -92,13 +93,14 @@ wrongCount counts = anyBelow (aboveRange counts) mapCells
 abbrev pub noMark : List ℕ → Bool
 noMark marks = eqb (cellsIn marks) 0
 
--- "Footprint refusals", in the order tested; 0 where there is none
-unfoldable pub footprintRefusal : List ℕ → List ℕ → ℕ → ℕ
-footprintRefusal counts marks area =
-    cond (wrongLength counts marks) 5
-    (cond (wrongArea area) 6
-    (cond (wrongCount counts) 7
-    (cond (noMark marks) 8 0)))
+-- "Footprint refusals", in the order tested
+abbrev pub footprintTests : List ℕ → List ℕ → ℕ → List Test
+footprintTests counts marks area =
+    5 when wrongLength counts marks
+    ∷ 6 when wrongArea area
+    ∷ 7 when wrongCount counts
+    ∷ 8 when noMark marks
+    ∷ []
 
 abbrev pub refusedFootprint : ℕ → Footprint
 refusedFootprint n = record { refusal = n; row = 0; place = 0; people = 0; cells = 0 }
@@ -115,5 +117,4 @@ foundFootprint counts marks area = record {
 -- "The answer"
 unfoldable pub footprintOf : List ℕ → List ℕ → ℕ → Footprint
 footprintOf counts marks area =
-    cond (eqb (footprintRefusal counts marks area) 0) (foundFootprint counts marks area)
-    (refusedFootprint (footprintRefusal counts marks area))
+    answered (footprintTests counts marks area) (foundFootprint counts marks area) refusedFootprint

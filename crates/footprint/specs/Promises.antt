@@ -1,26 +1,23 @@
 -- What is promised of every footprint's answer, beyond its definition. The proofs are in proofs/Promises.antt.
 use mathlib.Core.Path.{_≡_}
-use mathlib.Core.Logic.{_⊎_}
 use mathlib.Core.List.{List}
 use Prim.Native.Nat.{ℕ, _*_, _^_, _≤_, _<_}
 use lib.Count.{ones}
 use lib.ListN.{length, getD}
+use Rattle.arithmetic.specs.Refusals.{AnswerPromise}
 use Rattle.arithmetic.specs.SumsAndMaxima.{sumBelow}
-use Rattle.footprint.specs.Map.{mapCells, mapRows, largestCount, leastArea, largestArea, countAt, markAt, tableRow, refusedFootprint, foundFootprint, footprintOf}
+use Rattle.footprint.specs.Map.{mapCells, mapRows, largestCount, leastArea, largestArea, countAt, markAt, tableRow, footprintTests, refusedFootprint, foundFootprint, footprintOf}
+use Rattle.footprint.specs.declared.Footprint.{Footprint}
 
 -- "An empty cell is row 2."
 abbrev pub EmptyCell : Type 0
 EmptyCell = (area : ℕ) → leastArea ≤ area → tableRow 0 area ≡ 2
 
--- the refusal is 0 or a number of the footprint's list, and where it isn't 0 all other numbers are zero (demand 1)
-pub record FootprintRefusal (counts marks : List ℕ) (area : ℕ) : Type 0 where
-  pub listed : (footprintOf counts marks area .refusal ≡ 0)
-      ⊎ (footprintOf counts marks area .refusal ≡ 5)
-      ⊎ (footprintOf counts marks area .refusal ≡ 6)
-      ⊎ (footprintOf counts marks area .refusal ≡ 7)
-      ⊎ (footprintOf counts marks area .refusal ≡ 8)
-  pub zeros : (footprintOf counts marks area .refusal ≡ 0 → ⊥)
-      → footprintOf counts marks area ≡ refusedFootprint (footprintOf counts marks area .refusal)
+-- each refusal exactly when its test is the first that holds; the refusal is 0 or a number of the footprint's list, and where it isn't 0 all
+-- other numbers are zero (demand 1)
+abbrev pub FootprintRefusal : List ℕ → List ℕ → ℕ → Type 0
+FootprintRefusal counts marks area =
+    AnswerPromise (λ (f : Footprint). f .refusal) (footprintTests counts marks area) (foundFootprint counts marks area) refusedFootprint (footprintOf counts marks area)
 
 -- what is known of an input that isn't refused
 pub record AcceptedFootprint (counts marks : List ℕ) (area : ℕ) : Type 0 where

@@ -14,16 +14,17 @@ use Rattle.arithmetic.proofs.TestLaws.{not-refused, went-on, cond-le}
 use Rattle.arithmetic.proofs.FractionLaws.{trans-le}
 use Rattle.sheet.specs.declared.Sheet.{Sheet}
 use Rattle.sheet.specs.Column.{lastLimit}
+use Rattle.sheet.specs.declared.SheetAnswer.{SheetAnswer}
 use Rattle.sheet.specs.Sheet.{linesOf, sheetOf}
 use Rattle.sheet.proofs.LineBounds.{column-max}
 use Rattle.sheet.proofs.ColumnLaws.{lines-column}
-use Rattle.sheet.proofs.Refusals.{refused-exactly-when, sheet-is-given-or-zero}
+use Rattle.sheet.proofs.AcceptanceHolds.{refused-exactly-when, sheet-promise}
 use Rattle.exact_area.specs.ExactArea.{exactArea}
 use Rattle.exact_area.specs.Accuracy.{AreaIsAccurate}
 use Rattle.footprint.specs.declared.Footprint.{Footprint}
 use Rattle.footprint.specs.Promises.{FootprintRanges}
-use Rattle.footprint.proofs.Promises.{footprint-promise}
-use Rattle.risk_class.proofs.Promises.{intrinsic-promise, final-promise}
+use Rattle.footprint.proofs.PromisesHold.{footprint-promise}
+use Rattle.risk_class.proofs.PromisesHold.{intrinsic-promise, final-promise}
 use Rattle.assessment.specs.declared.Assessment.{Assessment}
 use Rattle.assessment.specs.Working.{Working, given}
 use Rattle.assessment.specs.Assessment.{refusedAssessment, AssessmentParts}
@@ -48,7 +49,7 @@ class-fits (negsuc n) h k = omega (arith, leb→le n 0 (h .le))
 sheet-fits : (w m v : ℕ) → sheetOf w m v .refusal ≡ 0 → AreaIsAccurate w m v (sheetOf w m v .sheet) →
     (sheetOf w m v .sheet .area .low ≤ lastLimit) × (sheetOf w m v .sheet .area .high ≤ lastLimit) × (sheetOf w m v .sheet .column ≤ 5)
 sheet-fits w m v e a =
-    let is : sheetOf w m v .sheet ≡ linesOf w m v = sheet-is-given-or-zero w m v .given e
+    let is : sheetOf w m v .sheet ≡ linesOf w m v = ap (λ (a : SheetAnswer). a .sheet) (sheet-promise w m v .if-accepted e)
     in let high : sheetOf w m v .sheet .area .high ≤ lastLimit = rw is (refused-exactly-when w m v .none .0 e .1)
     in let low : sheetOf w m v .sheet .area .low over 1 ⊑ sheetOf w m v .sheet .area .high over 1 =
     trans-le _ (exactArea w m v) _ (a .denominator-above-zero) (a .low-at-most) (a .high-at-least)

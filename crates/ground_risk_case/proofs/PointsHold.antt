@@ -22,8 +22,8 @@ use Rattle.sheet.specs.Points.{sheetPoints}
 use Rattle.sheet.proofs.PointsHold.{sheet-points-hold}
 use Rattle.footprint.specs.Points.{P16Map, rowPoints}
 use Rattle.footprint.proofs.PointsHold.{row-points-hold, p16-footprint}
-use Rattle.risk_class.specs.ClassTable.{classAt, classRefusal, intrinsicClassOf}
-use Rattle.risk_class.specs.Mitigation.{creditAt, mitigationRefusal, finalClassOf}
+use Rattle.risk_class.specs.ClassTable.{classAt, intrinsicClassOf}
+use Rattle.risk_class.specs.Mitigation.{creditAt, finalClassOf}
 use Rattle.risk_class.specs.Points.{finalPoints}
 use Rattle.risk_class.proofs.PointsHold.{final-points-hold}
 use Rattle.assessment.specs.declared.Assessment.{Assessment}
@@ -52,7 +52,7 @@ told a = record { refusal = a .refusal; fields = printedFields a }
 
 p16-assessment : (counts marks : List ℕ) → P16Map counts marks →
     told (assessmentOf (p16Head .dimension) (p16Head .mass) (p16Head .speed) counts marks (p16Head .«cell_area») (p16Head .controlled) (p16Head .word)) ≡ record { refusal = 0; fields = p16Fields }
-unfolding assessmentOf assessedBy workingOn afterFootprint afterClass sheetOf linesOf withLines flagOf columnOf columnBy areaOf totalOf savingOf runOf divUp intrinsicClassOf classRefusal classAt finalClassOf mitigationRefusal creditAt anyBelow
+unfolding assessmentOf assessedBy workingOn afterFootprint afterClass sheetOf linesOf withLines flagOf columnOf columnBy areaOf totalOf savingOf runOf divUp intrinsicClassOf classAt finalClassOf creditAt anyBelow
 p16-assessment counts marks h = rw (p16-footprint counts marks h)
 
 p16-told : (t : List ℕ) → P16Text t → told (outcomeOf t mapCells mapRows) ≡ record { refusal = 0; fields = p16Fields }

@@ -1,16 +1,20 @@
 -- The whole case: "tested in the order: 15, reading, sheet, footprint, class, mitigation; the first refusal from reading on is printed."
 use mathlib.Core.Path.{_≡_}
 use mathlib.Core.Bool.{cond}
-use mathlib.Core.List.{List}
+use mathlib.Core.List.{List, _∷_}
 use Prim.Native.Nat.{ℕ}
 use lib.Dec.{ltb, eqb}
 use lib.ListN.{length}
 use Rattle.assessment.specs.declared.Assessment.{Assessment}
-use Rattle.assessment.specs.Assessment.{refusedAssessment, assessmentOf}
+use Rattle.assessment.specs.Assessment.{refusedAssessment, assessmentRefusals, assessmentOf}
 use Rattle.case_text.specs.Text.{headOf, marksOf, countsOf, readingRefusal, leftIn}
 use Rattle.frame.specs.declared.FrameFields.{FrameFields}
 use Rattle.frame.specs.Layout.{frameLength}
 use Rattle.frame.specs.Frame.{framed}
+
+-- the refusals of a case, in the order tested: 15, those of the reading, those of the assessment
+abbrev pub caseRefusals : List ℕ
+caseRefusals = 15 ∷ 13 ∷ 5 ∷ 14 ∷ assessmentRefusals
 
 -- the printed fields of an assessment
 abbrev pub printedFields : Assessment → FrameFields

@@ -1,11 +1,12 @@
 -- Demand 3 at the bytes: what a frame says that was printed with no refusal.
 use mathlib.Core.Path.{_≡_}
 use mathlib.Core.Logic.{_⊎_}
-use mathlib.Core.List.{List}
+use mathlib.Core.List.{List, _∷_}
 use Prim.Native.Nat.{ℕ, _+_, _≤_}
 use lib.IntN.{ℤ}
 use lib.ListN.{length}
 use lib.Signed.{_≤ℤ_}
+use Rattle.arithmetic.specs.Refusals.{OneOf}
 use Rattle.sheet.specs.declared.Sheet.{Sheet}
 use Rattle.sheet.specs.Sheet.{sheetOf}
 use Rattle.exact_area.specs.ExactArea.{exactColumn}
@@ -18,7 +19,7 @@ use Rattle.case_text.specs.Text.{headOf, marksOf, countsOf}
 use Rattle.frame.specs.declared.FrameFields.{FrameFields}
 use Rattle.frame.specs.Layout.{frameLength}
 use Rattle.frame.specs.FrameLaw.{refusalIn, fieldsIn}
-use Rattle.ground_risk_case.specs.Case.{caseAnswer, frameLeft}
+use Rattle.ground_risk_case.specs.Case.{caseRefusals, caseAnswer, frameLeft}
 
 -- of the fields that stand in a text: the sheet, the footprint, the exact column, and the working at a column
 abbrev pub sheetIn : List ℕ → Sheet
@@ -70,5 +71,5 @@ EndToEnd =
 
 -- and whatever it answers: a number that document 01 lists, which the first two digits of a frame buffer that is long enough show
 pub record AnswerShown (t : List ℕ) (counts marks : ℕ) (frame : List ℕ) : Type 0 where
-  pub listed : caseAnswer t counts marks (length frame) ≤ 15
+  pub listed : OneOf (caseAnswer t counts marks (length frame)) (0 ∷ caseRefusals)
   pub shown : frameLength ≤ length frame → refusalIn (frameLeft t counts marks frame) ≡ caseAnswer t counts marks (length frame)

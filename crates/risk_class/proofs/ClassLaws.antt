@@ -1,13 +1,15 @@
--- The class table's answer: a law for each way that it can come out.
-use mathlib.Core.Path.{_≡_, sym, _∙_}
-use mathlib.Core.Bool.{true, false, _||_}
+-- The class table's answer: what its tests say, and its ways out.
+use mathlib.Core.Path.{_≡_, refl}
+use mathlib.Core.Bool.{false, cond, _||_}
 use Prim.Native.Nat.{ℕ, _≤_}
 use native.Mathlib.Omega.{arith}
-use borrow.Author.Tests.{eq-eqb, ne-eqb, ltb-false}
+use borrow.Author.Tests.{ltb-false}
 use lib.Dec.{ltb, eqb}
 use Rattle.arithmetic.specs.Tests.{outside}
+use Rattle.arithmetic.proofs.RefusalLaws as tests
+use Rattle.arithmetic.proofs.RefusalLaws.{FollowsFrom}
 use Rattle.arithmetic.proofs.TestLaws.{neither, inside, cond-le, le-cond}
-use Rattle.risk_class.specs.ClassTable.{noClass, classAt, usedRow, wrongColumn, outsideTable, classRefusal, intrinsicClassOf}
+use Rattle.risk_class.specs.ClassTable.{classAt, usedRow, wrongColumn, outsideTable, classTests, refusedClass, acceptedClass, intrinsicClassOf}
 
 pub record InTable (column row controlled : ℕ) : Type 0 where
   pub column-ge : 1 ≤ column
@@ -29,16 +31,8 @@ pub used-in : (row controlled : ℕ) → 2 ≤ row → row ≤ 7 → (1 ≤ used
 used-in row controlled h l =
     (le-cond (eqb controlled 1) {a = 1} {b = row} {k = 1} (omega arith) (omega arith), cond-le (eqb controlled 1) {a = 1} {b = row} {k = 7} (omega arith) l)
 
-module _ (column row controlled : ℕ) where
-  pub refused-outside : outsideTable column row controlled ≡ true → record { refusal = 9; class = 0 } ≡ intrinsicClassOf column row controlled
-  unfolding intrinsicClassOf classRefusal
-  refused-outside h = sym (simp h)
-
-  module _ (r-in : outsideTable column row controlled ≡ false) {e : ℕ} (e-is : e ≡ classAt (usedRow row controlled) column) where
-    pub refused-none : e ≡ noClass → record { refusal = 10; class = 0 } ≡ intrinsicClassOf column row controlled
-    unfolding intrinsicClassOf classRefusal
-    refused-none z = sym (simp (r-in, eq-eqb (classAt (usedRow row controlled) column) noClass (sym e-is ∙ z)))
-
-    pub given : (e ≡ noClass → ⊥) → record { refusal = 0; class = e } ≡ intrinsicClassOf column row controlled
-    unfolding intrinsicClassOf classRefusal
-    given z = simp (r-in, ne-eqb (classAt (usedRow row controlled) column) noClass (λ q. z (e-is ∙ q)), e-is)
+-- each way out of the tests, by its number: the refused class, and at 0 the table's entry
+pub way-out : (column row controlled n : ℕ) → FollowsFrom (classTests column row controlled) n
+    (cond (eqb n 0) (acceptedClass (classAt (usedRow row controlled) column)) (refusedClass n) ≡ intrinsicClassOf column row controlled)
+unfolding intrinsicClassOf
+way-out column row controlled = tests.way-out _ _ (classTests column row controlled) refl

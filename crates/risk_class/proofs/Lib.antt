@@ -2,5 +2,5 @@ pub mod PointsHold
 pub mod TableLaws
 pub mod ClassLaws
 pub mod MitigationLaws
-pub mod Promises
+pub mod PromisesHold
 pub mod Lower

@@ -15,7 +15,8 @@ use Rattle.risk_class.specs.Mitigation.{creditOf, afterM1, finalClass, f
 use Rattle.risk_class.specs.Promises.{LowerInTable, LowerEntry, IntrinsicLower, FinalLower, WorkingLower}
 use Rattle.risk_class.proofs.TableLaws.{floor-in, table-lower}
 use Rattle.risk_class.proofs.ClassLaws.{used-in}
-use Rattle.risk_class.proofs.Promises as one
+use Rattle.risk_class.proofs.MitigationLaws.{entry-test}
+use Rattle.risk_class.proofs.PromisesHold as one
 
 sub-mono : (a b d : ℕ) → a ≤ b → leZ (subℕ a d) (subℕ b d) ≡ true
 sub-mono a b d l =
@@ -55,8 +56,7 @@ module _ (column row controlled column′ row′ controlled′ : ℕ) (low : Low
       let r = one.read column row controlled ok in
       let right : outsideTable column′ row′ controlled′ ≡ false =
       simp (not-outside 1 5 column′ (low .column-ge) (omega arith), not-outside 2 7 row′ (low .row-ge) (omega arith), le-ltb 1 controlled′ (low .controlled-le)) in
-      one.refusal-is column′ row′ controlled′
-      ∙ simp (right, ne-eqb (classAt (usedRow row′ controlled′) column′) noClass (λ z. omega (arith, entry-lower, z)))
+      one.intrinsic-accepted column′ row′ controlled′ right (ne-eqb (classAt (usedRow row′ controlled′) column′) noClass (λ z. omega (arith, entry-lower, z)))
 
   class-lower : intrinsicClassOf column′ row′ controlled′ .class ≤ intrinsicClassOf column row controlled .class
   class-lower = rw (one.class-is column row controlled ok, one.class-is column′ row′ controlled′ accepted-lower) (entry-lower .1)
@@ -82,8 +82,8 @@ module _ (column class column′ class′ word : ℕ) (low : LowerEntry column c
       let f = afterM1 column′ class′ word in
       let d = creditOf word 3 in
       let small : ltZ (pos 7) (finalClass column′ class′ word) ≡ false = one.above-is f d ∙ le-ltb (7 + d) f (le-trans m1-lower (k .small)) in
-      one.final-refusal column′ class′ word
-      ∙ simp (not-outside 1 5 column′ (low .column-ge) (omega arith), low .entry, k .offered, small)
+      one.final-accepted column′ class′ word
+      (entry-test column′ class′ (not-outside 1 5 column′ (low .column-ge) (omega arith)) (low .entry)) (k .offered) small
 
   final-le : finalClassOf column′ class′ word .class ≤ℤ finalClassOf column class word .class
   final-le =

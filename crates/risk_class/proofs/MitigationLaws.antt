@@ -1,41 +1,30 @@
--- The mitigation word's answer: a law for each way that it can come out, and the credits of a word that is offered.
-use mathlib.Core.Path.{_≡_, sym, ap, _∙_}
-use mathlib.Core.Bool.{Bool, true, false, _||_}
+-- The mitigation word's answer: what its tests say, its ways out, and the credits of a word that is offered.
+use mathlib.Core.Path.{_≡_, refl}
+use mathlib.Core.Bool.{Bool, true, false, cond, not, _||_}
 use Prim.Native.Nat.{ℕ, _≤_}
 use native.Mathlib.Omega.{arith}
 use borrow.Author.Tests.{eqb-false}
 use lib.Dec.{eqb}
-use lib.IntN.{ℤ, pos}
-use lib.Signed.{ltZ}
+use Rattle.arithmetic.proofs.RefusalLaws as tests
+use Rattle.arithmetic.proofs.RefusalLaws.{FollowsFrom}
 use Rattle.arithmetic.proofs.TestLaws.{neither}
 use Rattle.risk_class.specs.ClassTable.{wrongColumn}
-use Rattle.risk_class.specs.Mitigation.{notOffered, creditOf, anyNotOffered, isEntry, finalClass, mitigationRefusal, refusedFinal, finalClassOf}
+use Rattle.risk_class.specs.Mitigation.{notOffered, creditOf, anyNotOffered, isEntry, noEntry, finalClass, mitigationTests, refusedFinal, acceptedFinal, finalClassOf}
 use Rattle.risk_class.proofs.TableLaws.{credit-le}
 
-module _ (column class word : ℕ) where
-  pub refused-column : wrongColumn column ≡ true → refusedFinal 9 ≡ finalClassOf column class word
-  unfolding finalClassOf mitigationRefusal
-  refused-column h = simp h
+-- the test of refusal 9, in two steps as the code makes it
+module _ (column class : ℕ) where
+  pub wrong-column : wrongColumn column ≡ true → noEntry column class ≡ true
+  wrong-column h = simp h
 
-  module _ (c-in : wrongColumn column ≡ false) where
-    pub refused-entry : isEntry column class ≡ false → refusedFinal 9 ≡ finalClassOf column class word
-    unfolding finalClassOf mitigationRefusal
-    refused-entry h = simp (c-in, h)
+  pub entry-test : wrongColumn column ≡ false → {t : Bool} → isEntry column class ≡ t → noEntry column class ≡ not t
+  entry-test c-in h = simp (c-in, h)
 
-    module _ (e-in : isEntry column class ≡ true) where
-      pub refused-digit : anyNotOffered word ≡ true → refusedFinal 11 ≡ finalClassOf column class word
-      unfolding finalClassOf mitigationRefusal
-      refused-digit h = simp (c-in, e-in, h)
-
-      module _ (w-in : anyNotOffered word ≡ false) {l : ℤ} (l-is : l ≡ finalClass column class word) where
-        pub refused-above : ltZ (pos 7) l ≡ true → refusedFinal 12 ≡ finalClassOf column class word
-        unfolding finalClassOf mitigationRefusal
-        refused-above h = sym (simp (c-in, e-in, w-in, sym (ap (ltZ (pos 7)) l-is) ∙ h))
-
-        pub given : ltZ (pos 7) l ≡ false → record { refusal = 0; class = l } ≡ finalClassOf column class word
-        unfolding finalClassOf mitigationRefusal
-        given h =
-            ap (λ (z : ℤ). record { refusal = 0; class = z }) l-is ∙ sym (simp (c-in, e-in, w-in, sym (ap (ltZ (pos 7)) l-is) ∙ h))
+-- each way out of the tests, by its number: the refused class, and at 0 the class after the credits
+pub way-out : (column class word n : ℕ) → FollowsFrom (mitigationTests column class word) n
+    (cond (eqb n 0) (acceptedFinal (finalClass column class word)) (refusedFinal n) ≡ finalClassOf column class word)
+unfolding finalClassOf
+way-out column class word = tests.way-out _ _ (mitigationTests column class word) refl
 
 -- the test of the four credits, as the code makes it
 pub not-offered-is : (word : ℕ) {a b c d : ℕ} → a ≡ creditOf word 0 → b ≡ creditOf word 1 → c ≡ creditOf word 2 → d ≡ creditOf word 3

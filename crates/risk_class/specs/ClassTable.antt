@@ -5,6 +5,7 @@ use Prim.Native.Nat.{ℕ, _-_}
 use lib.Dec.{ltb, eqb}
 use lib.ListN.{getD}
 use Rattle.arithmetic.specs.Tests.{outside}
+use Rattle.arithmetic.specs.Refusals.{Test, _when_, answered}
 use Rattle.risk_class.specs.declared.class_table.IntrinsicClass.{IntrinsicClass}
 
 -- an entry that is "none"
@@ -44,14 +45,25 @@ wrongColumn column = outside 1 columns column
 abbrev pub outsideTable : ℕ → ℕ → ℕ → Bool
 outsideTable column row controlled = wrongColumn column || outside 2 rows row || ltb 1 controlled
 
--- "Class refusals", in the order tested: 9, and 10 where the entry is "none"; 0 where there is none
-unfoldable pub classRefusal : ℕ → ℕ → ℕ → ℕ
-classRefusal column row controlled =
-    cond (outsideTable column row controlled) 9 (cond (eqb (classAt (usedRow row controlled) column) noClass) 10 0)
+-- "10 the entry is "none""
+abbrev pub entryIsNone : ℕ → ℕ → ℕ → Bool
+entryIsNone column row controlled = eqb (classAt (usedRow row controlled) column) noClass
 
--- the intrinsic class; "The answer is zero then", where it is refused
+-- "Class refusals", in the order tested
+abbrev pub classTests : ℕ → ℕ → ℕ → List Test
+classTests column row controlled =
+    9 when outsideTable column row controlled
+    ∷ 10 when entryIsNone column row controlled
+    ∷ []
+
+-- "The answer is zero then."
+abbrev pub refusedClass : ℕ → IntrinsicClass
+refusedClass n = record { refusal = n; class = 0 }
+
+abbrev pub acceptedClass : ℕ → IntrinsicClass
+acceptedClass class = record { refusal = 0; class = class }
+
+-- the intrinsic class, or its refusal
 unfoldable pub intrinsicClassOf : ℕ → ℕ → ℕ → IntrinsicClass
-intrinsicClassOf column row controlled = record {
-  refusal = classRefusal column row controlled;
-  class = cond (eqb (classRefusal column row controlled) 0) (classAt (usedRow row controlled) column) 0;
-}
+intrinsicClassOf column row controlled =
+    answered (classTests column row controlled) (acceptedClass (classAt (usedRow row controlled) column)) refusedClass

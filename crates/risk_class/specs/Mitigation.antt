@@ -7,6 +7,7 @@ use lib.IntN.{ℤ, pos, subℕ}
 use lib.ListN.{getD}
 use lib.Signed.{ltZ}
 use Rattle.arithmetic.specs.Tests.{anyBelow}
+use Rattle.arithmetic.specs.Refusals.{Test, _when_, answered}
 use Rattle.risk_class.specs.ClassTable.{rows, classAt, wrongColumn}
 use Rattle.risk_class.specs.declared.mitigation.FinalClass.{FinalClass}
 
@@ -36,7 +37,7 @@ digitAt word which = word / 16 ^ (3 - which) % 16
 abbrev pub creditOf : ℕ → ℕ → ℕ
 creditOf word which = creditAt which (digitAt word which)
 
--- "a digit that isn't offered"
+-- "11 a digit that isn't offered"
 abbrev pub anyNotOffered : ℕ → Bool
 anyNotOffered word =
     eqb (creditOf word 0) notOffered || eqb (creditOf word 1) notOffered || eqb (creditOf word 2) notOffered || eqb (creditOf word 3) notOffered
@@ -53,19 +54,29 @@ afterM1 column class word = max (classAt 1 column) (class - (creditOf word 0 + c
 abbrev pub finalClass : ℕ → ℕ → ℕ → ℤ
 finalClass column class word = subℕ (afterM1 column class word) (creditOf word 3)
 
--- "Mitigation refusals", in the order tested: "9 column not 1 to 5 or class not an entry of that column; 11 a digit that isn't offered;
--- 12 a final class above 7"; 0 where there is none
-unfoldable pub mitigationRefusal : ℕ → ℕ → ℕ → ℕ
-mitigationRefusal column class word =
-    cond (wrongColumn column || not (isEntry column class)) 9
-    (cond (anyNotOffered word) 11 (cond (ltZ (pos 7) (finalClass column class word)) 12 0))
+-- "9 column not 1 to 5 or class not an entry of that column"
+abbrev pub noEntry : ℕ → ℕ → Bool
+noEntry column class = wrongColumn column || not (isEntry column class)
 
+-- "12 a final class above 7"
+abbrev pub finalTooHigh : ℕ → ℕ → ℕ → Bool
+finalTooHigh column class word = ltZ (pos 7) (finalClass column class word)
+
+-- "Mitigation refusals", in the order tested
+abbrev pub mitigationTests : ℕ → ℕ → ℕ → List Test
+mitigationTests column class word =
+    9 when noEntry column class
+    ∷ 11 when anyNotOffered word
+    ∷ 12 when finalTooHigh column class word
+    ∷ []
+
+-- "The answer is zero then; a final class of zero is told from it by the refusal number 0."
 abbrev pub refusedFinal : ℕ → FinalClass
 refusedFinal n = record { refusal = n; class = pos 0 }
 
--- the final class; "The answer is zero then", where it is refused
+abbrev pub acceptedFinal : ℤ → FinalClass
+acceptedFinal class = record { refusal = 0; class = class }
+
+-- the final class, or its refusal
 unfoldable pub finalClassOf : ℕ → ℕ → ℕ → FinalClass
-finalClassOf column class word = record {
-  refusal = mitigationRefusal column class word;
-  class = cond (eqb (mitigationRefusal column class word) 0) (finalClass column class word) (pos 0);
-}
+finalClassOf column class word = answered (mitigationTests column class word) (acceptedFinal (finalClass column class word)) refusedFinal

@@ -3,7 +3,7 @@ use mathlib.Core.Path.{_≡_}
 use mathlib.Core.List.{List, [], _∷_}
 use Prim.Native.Nat.{ℕ}
 use lib.IntN.{pos, negsuc}
-use Rattle.risk_class.specs.Mitigation.{refusedFinal, finalClassOf}
+use Rattle.risk_class.specs.Mitigation.{refusedFinal, acceptedFinal, finalClassOf}
 use Rattle.risk_class.specs.declared.mitigation.FinalClass.{FinalClass}
 
 pub record FinalPoint : Type 0 where
@@ -16,9 +16,9 @@ pub record FinalPoint : Type 0 where
 -- 0000 refused 12."
 abbrev pub finalPoints : List FinalPoint
 finalPoints =
-    record { column = 3; class = 6; word = 0x2212; final = record { refusal = 0; class = pos 1 } }
-    ∷ record { column = 3; class = 6; word = 0x2313; final = record { refusal = 0; class = pos 0 } }
-    ∷ record { column = 1; class = 1; word = 0x0003; final = record { refusal = 0; class = negsuc 0 } }
+    record { column = 3; class = 6; word = 0x2212; final = acceptedFinal (pos 1) }
+    ∷ record { column = 3; class = 6; word = 0x2313; final = acceptedFinal (pos 0) }
+    ∷ record { column = 1; class = 1; word = 0x0003; final = acceptedFinal (negsuc 0) }
     ∷ record { column = 5; class = 9; word = 0x0000; final = refusedFinal 12 }
     ∷ []
 

@@ -4,7 +4,7 @@ pub mod CountedColumn
 pub mod AreaTenths
 pub mod WaysOut
 pub mod LinesMade
-pub mod Refusals
+pub mod AcceptanceHolds
 pub mod Growth
 pub mod ColumnLaws
 pub mod PointsHold

@@ -9,14 +9,14 @@ use Rattle.sheet.specs.Lines.{fullWidth, glideOf, runOf, savingOf, slide
 use Rattle.sheet.specs.Column.{lastLimit, columnOf, flagOf}
 use Rattle.sheet.specs.declared.Bracket.{Bracket}
 use Rattle.sheet.specs.declared.Sheet.{Sheet}
-use Rattle.sheet.specs.Sheet.{withLines, linesOf, refusedSheet, givenSheet, areaTested}
+use Rattle.sheet.specs.Sheet.{withLines, linesOf, refusedSheet, acceptedSheet, areaTested}
 use Rattle.sheet.proofs.LineBounds.{slide-max, total-max}
 
 -- the area's test
 area-refused : (s : Sheet) {area : Bracket} → area ≡ s .area → lastLimit < area .high → refusedSheet 4 ≡ areaTested s
 area-refused s e h = simp (← e, lt-ltb _ _ h)
 
-area-given : {s t : Sheet} → s ≡ t → s .area .high ≤ lastLimit → givenSheet s ≡ areaTested t
+area-given : {s t : Sheet} → s ≡ t → s .area .high ≤ lastLimit → acceptedSheet s ≡ areaTested t
 area-given e h = simp (← e, le-ltb _ _ h)
 
 pub glide-fits : {glide : Bracket} → glide ≡ glideOf → AtMost glide glideMax
@@ -36,6 +36,6 @@ module _ (m v : ℕ) {run saving slide : Bracket} (r : run ≡ runOf v) (k : sav
       refused-4 = area-refused (linesOf w m v) {area = area} (cc)
 
       pub given : {column flag : ℕ} → column ≡ columnOf (area .high) → flag ≡ flagOf (area .low) (columnOf (area .high)) → area .high ≤ lastLimit →
-          givenSheet (record { glide = glide; run = run; saving = saving; slide = slide; total = total; area = area; column = column; flag = flag }) ≡ areaTested (linesOf w m v)
+          acceptedSheet (record { glide = glide; run = run; saving = saving; slide = slide; total = total; area = area; column = column; flag = flag }) ≡ areaTested (linesOf w m v)
       unfolding linesOf withLines
       given c f = area-given {t = linesOf w m v} (cc)

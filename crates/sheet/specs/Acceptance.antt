@@ -1,30 +1,25 @@
--- When a sheet is given and when it is refused: "A refusal comes when its condition holds and at no other time."
+-- When a sheet is accepted and when it is refused: "A refusal comes when its condition holds and at no other time."
 use mathlib.Core.Path.{_≡_}
-use mathlib.Core.Bool.{true}
+use mathlib.Core.Bool.{true, false}
 use mathlib.Core.Logic.{_↔_}
 use Prim.Native.Nat.{ℕ, _≤_, _<_}
 use Rattle.arithmetic.specs.Tests.{outside}
+use Rattle.arithmetic.specs.Refusals.{AnswerPromise}
 use Rattle.sheet.specs.Ranges.{dimensionMin, dimensionMax, massMin, massMax, speedMax, InRange}
 use Rattle.sheet.specs.Column.{lastLimit}
-use Rattle.sheet.specs.Sheet.{linesOf, zeroSheet, sheetOf}
+use Rattle.sheet.specs.declared.SheetAnswer.{SheetAnswer}
+use Rattle.sheet.specs.Sheet.{linesOf, refusedSheet, acceptedSheet, sheetTests, sheetOf}
 
--- the aircraft's dimension, and its mass, is outside its range
-abbrev pub DimensionOut : ℕ → Type 0
-DimensionOut w = outside dimensionMin dimensionMax w ≡ true
+-- each refusal exactly when its test is the first that holds; it is 0 or one of 1 to 4; an accepted sheet has the lines, and a refused one is all zeros
+abbrev pub SheetPromise : ℕ → ℕ → ℕ → Type 0
+SheetPromise w m v =
+    AnswerPromise (λ (a : SheetAnswer). a .refusal) (sheetTests w m v) (acceptedSheet (linesOf w m v)) refusedSheet (sheetOf w m v)
 
-abbrev pub MassOut : ℕ → Type 0
-MassOut m = outside massMin massMax m ≡ true
-
--- each refusal exactly when its condition is the first that holds, and none exactly when the ranges hold and the high area is at most the last limit
+-- the same, number by number, in the papers' inequalities
 pub record RefusedExactlyWhen (w m v : ℕ) : Type 0 where
-  pub one : sheetOf w m v .refusal ≡ 1 ↔ DimensionOut w
-  pub two : sheetOf w m v .refusal ≡ 2 ↔ (DimensionOut w → ⊥) × MassOut m
-  pub three : sheetOf w m v .refusal ≡ 3 ↔ (DimensionOut w → ⊥) × (MassOut m → ⊥) × (speedMax < v)
+  pub one : sheetOf w m v .refusal ≡ 1 ↔ outside dimensionMin dimensionMax w ≡ true
+  pub two : sheetOf w m v .refusal ≡ 2 ↔ (outside dimensionMin dimensionMax w ≡ false) × (outside massMin massMax m ≡ true)
+  pub three : sheetOf w m v .refusal ≡ 3
+      ↔ (outside dimensionMin dimensionMax w ≡ false) × (outside massMin massMax m ≡ false) × (speedMax < v)
   pub four : sheetOf w m v .refusal ≡ 4 ↔ InRange w m v × (lastLimit < linesOf w m v .area .high)
   pub none : sheetOf w m v .refusal ≡ 0 ↔ InRange w m v × (linesOf w m v .area .high ≤ lastLimit)
-
--- the refusal is one of 0 to 4; a sheet that is given is the lines', and one that is refused is all zeros
-pub record SheetIsGivenOrZero (w m v : ℕ) : Type 0 where
-  pub listed : sheetOf w m v .refusal ≤ 4
-  pub given : sheetOf w m v .refusal ≡ 0 → sheetOf w m v .sheet ≡ linesOf w m v
-  pub zero : (sheetOf w m v .refusal ≡ 0 → ⊥) → sheetOf w m v .sheet ≡ zeroSheet

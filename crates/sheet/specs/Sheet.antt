@@ -1,8 +1,9 @@
 -- The sheet and its refusals.
-use mathlib.Core.Bool.{cond}
+use mathlib.Core.List.{List, [], _∷_, _++_}
 use Prim.Native.Nat.{ℕ}
 use lib.Dec.{ltb}
 use Rattle.arithmetic.specs.Tests.{outside}
+use Rattle.arithmetic.specs.Refusals.{Test, _when_, answered}
 use Rattle.sheet.specs.Ranges.{dimensionMin, dimensionMax, massMin, massMax, speedMax}
 use Rattle.sheet.specs.Lines.{bracket, fullWidth, glideOf, runOf, savingOf, slideOf, totalOf, formulaOf, areaOf}
 use Rattle.sheet.specs.Column.{lastLimit, columnOf, flagOf}
@@ -48,16 +49,27 @@ zeroSheet =
 abbrev pub refusedSheet : ℕ → SheetAnswer
 refusedSheet n = record { refusal = n; sheet = zeroSheet }
 
-abbrev pub givenSheet : Sheet → SheetAnswer
-givenSheet s = record { refusal = 0; sheet = s }
+abbrev pub acceptedSheet : Sheet → SheetAnswer
+acceptedSheet s = record { refusal = 0; sheet = s }
+
+-- "1 dimension outside its range; 2 mass; 3 speed"
+abbrev pub rangeTests : ℕ → ℕ → ℕ → List Test
+rangeTests w m v =
+    1 when outside dimensionMin dimensionMax w
+    ∷ 2 when outside massMin massMax m
+    ∷ 3 when ltb speedMax v
+    ∷ []
 
 -- "4 high area above 650,000,000"
-abbrev pub areaTested : Sheet → SheetAnswer
-areaTested s = cond (ltb lastLimit (s .area .high)) (refusedSheet 4) (givenSheet s)
+abbrev pub areaTests : Sheet → List Test
+areaTests s = 4 when ltb lastLimit (s .area .high) ∷ []
 
--- "Sheet refusals: 1 dimension outside its range; 2 mass; 3 speed; 4 high area above 650,000,000. Tested in that order"
+-- "Tested in that order"
+abbrev pub sheetTests : ℕ → ℕ → ℕ → List Test
+sheetTests w m v = rangeTests w m v ++ areaTests (linesOf w m v)
+
+abbrev pub areaTested : Sheet → SheetAnswer
+areaTested s = answered (areaTests s) (acceptedSheet s) refusedSheet
+
 unfoldable pub sheetOf : ℕ → ℕ → ℕ → SheetAnswer
-sheetOf w m v =
-    cond (outside dimensionMin dimensionMax w) (refusedSheet 1)
-    (cond (outside massMin massMax m) (refusedSheet 2)
-    (cond (ltb speedMax v) (refusedSheet 3) (areaTested (linesOf w m v))))
+sheetOf w m v = answered (sheetTests w m v) (acceptedSheet (linesOf w m v)) refusedSheet

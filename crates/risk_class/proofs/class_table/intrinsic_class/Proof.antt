@@ -1,10 +1,11 @@
--- `risk_class::class_table::intrinsic_class` meets its contract: a law of the answer for each return.
-use mathlib.Core.Path.{_≡_, ap, _∙_}
+-- `risk_class::class_table::intrinsic_class` meets its contract: a way out of the tests for each return.
+use mathlib.Core.Path.{_≡_, sym, ap, _∙_}
 use Prim.Native.Nat.{ℕ}
 use native.Mathlib.Omega.{arith}
 use borrow.Author.Needs.{needs}
-use Rattle.risk_class.specs.ClassTable.{classAt, usedRow}
-use Rattle.risk_class.proofs.ClassLaws.{InTable, in-table, used-in, refused-outside, refused-none, given}
+use borrow.Author.Tests.{eq-eqb, ne-eqb}
+use Rattle.risk_class.specs.ClassTable.{classAt, usedRow, acceptedClass}
+use Rattle.risk_class.proofs.ClassLaws.{InTable, in-table, used-in, way-out}
 use Rattle.risk_class.proofs.class_table.intrinsic_class.Statement.{statement}
 use Rattle.risk_class.proofs.class_table.intrinsic_class.Tie as tie
 
@@ -16,7 +17,7 @@ class-is : (c : tie.After-entry)
 class-is c = c .entry .ensures ∙ ap (λ (r : ℕ). classAt r (c .before .before .before .args .column)) (c .before .used-row .ensures)
 
 returns : tie.Need-returns
-returns c = refused-outside _ _ _ (c .if1 .taken)
+returns c = way-out _ _ _ 9 (c .if1 .taken)
 
 used-row-requires : tie.Need-used-row-requires
 used-row-requires c κs = search needs
@@ -28,10 +29,12 @@ entry-requires c κs =
     omega (arith, c .used-row .ensures, used-in (args .row) (args .controlled) (r .row-ge) (r .row-le))
 
 returns-2 : tie.Need-returns-2
-returns-2 c = refused-none _ _ _ (c .before .before .before .if1 .left) (class-is (c .before)) (c .if2 .taken)
+returns-2 c = way-out _ _ _ 10 (c .before .before .before .if1 .left) (eq-eqb _ _ (sym (class-is (c .before)) ∙ c .if2 .taken))
 
 returns-3 : tie.Need-returns-3
-returns-3 c = given _ _ _ (c .before .before .before .if1 .left) (class-is (c .before)) (c .if2 .left)
+returns-3 c =
+    ap acceptedClass (class-is (c .before))
+    ∙ way-out _ _ _ 0 (c .before .before .before .if1 .left) (ne-eqb _ _ (λ z. c .if2 .left (class-is (c .before) ∙ z)))
 
 pub intrinsic-class-spec : {M : Type 1} → statement M
 intrinsic-class-spec =

@@ -1,19 +1,18 @@
--- `risk_class::mitigation::final_class` meets its contract: a law of the answer for each return.
+-- `risk_class::mitigation::final_class` meets its contract: a way out of the tests for each return.
 use mathlib.Core.Path.{_≡_, sym, ap, ap₂, _∙_}
-use mathlib.Core.Bool.{true, false}
+use mathlib.Core.Bool.{Bool, true, false}
 use Prim.Native.Nat.{ℕ, _+_, _-_, _/_, _%_, max}
 use native.Mathlib.Omega.{arith}
 use borrow.Author.Needs.{needs}
 use borrow.Author.Tests.{not-true, not-false}
-use lib.IntN.{ℤ, pos, subℕ}
+use lib.IntN.{pos, subℕ}
 use lib.Signed.{ltZ}
 use mir.Facts.{toZ-ofZ}
 use mir.Syntax.{w8}
 use mir.Val.{ofZ, toZ}
 use Rattle.arithmetic.proofs.TestLaws.{inside}
 use Rattle.risk_class.specs.ClassTable.{wrongColumn}
-use Rattle.risk_class.specs.Mitigation.{creditAt, creditOf, anyNotOffered, isEntry, finalClass}
-use Rattle.risk_class.specs.declared.mitigation.FinalClass.{FinalClass}
+use Rattle.risk_class.specs.Mitigation.{creditAt, creditOf, anyNotOffered, isEntry, noEntry, finalClass, finalTooHigh, acceptedFinal}
 use Rattle.risk_class.proofs.TableLaws.{class-le, floor-in, entry-row}
 use Rattle.risk_class.proofs.MitigationLaws as law
 use Rattle.risk_class.proofs.mitigation.final_class.Statement.{statement}
@@ -26,6 +25,9 @@ column-in c = c .if1 .left
 
 entry-in : (c : tie.Else2) → isEntry (c .before .before .before .args .column) (c .before .before .before .args .class) ≡ true
 entry-in c = sym (c .before .is-entry .ensures) ∙ not-false _ (c .if2 .left)
+
+passed-9 : (c : tie.Else2) → noEntry (c .before .before .before .args .column) (c .before .before .before .args .class) ≡ false
+passed-9 c = let args = c .before .before .before .args in law.entry-test (args .column) (args .class) (column-in (c .before .before)) (entry-in c)
 
 -- the last digit, with nothing divided
 last-digit : (word : ℕ) → creditAt 3 (word % 16) ≡ creditOf word 3
@@ -56,13 +58,23 @@ last-is c =
 above-is : (c : tie.After-after-m2) → toZ w8 (ofZ w8 (c .after-m2 .result)) ≡ c .after-m2 .result
 above-is c = toZ-ofZ {w = w8} {z = c .after-m2 .result} (record { sfits = c .after-m2 .ok })
 
+-- the place where the class was found to be an entry
+abbrev entered : tie.After-after-m2 → tie.Else2
+entered c = c .before .before .before .before .before .before .before .before
+
+too-high : (c : tie.After-after-m2) {t : Bool} → ltZ (pos 7) (toZ w8 (ofZ w8 (c .after-m2 .result))) ≡ t
+    → finalTooHigh (entered c .before .before .before .args .column) (entered c .before .before .before .args .class) (entered c .before .before .before .args .word) ≡ t
+too-high c h = sym (ap (ltZ (pos 7)) (above-is c ∙ last-is c)) ∙ h
+
 -- ---- the needs
 
 refused-with-requires : tie.Need-refused-with-requires
 refused-with-requires c κs = search needs
 
 returns : tie.Need-returns
-returns c = c .refused-with .ensures ∙ law.refused-column _ _ _ (c .before .if1 .taken)
+returns c =
+    let args = c .before .before .args in
+    c .refused-with .ensures ∙ law.way-out _ _ _ 9 (law.wrong-column (args .column) (args .class) (c .before .if1 .taken))
 
 is-entry-requires : tie.Need-is-entry-requires
 is-entry-requires c κs = inside 1 5 _ (column-in c)
@@ -72,8 +84,10 @@ refused-with-requires-2 c κs = search needs
 
 returns-2 : tie.Need-returns-2
 returns-2 c =
+    let at = c .before .before in
+    let args = at .before .before .args in
     c .refused-with2 .ensures
-    ∙ law.refused-entry _ _ _ (column-in (c .before .before .before)) (sym (c .before .before .is-entry .ensures) ∙ not-true _ (c .before .if2 .taken))
+    ∙ law.way-out _ _ _ 9 (law.entry-test (args .column) (args .class) (column-in (at .before)) (sym (at .is-entry .ensures) ∙ not-true _ (c .before .if2 .taken)))
 
 credit-requires : tie.Need-credit-requires
 credit-requires c κs = search needs
@@ -94,7 +108,7 @@ returns-3 : tie.Need-returns-3
 returns-3 c =
     let at = c .before .before in
     c .refused-with3 .ensures
-    ∙ law.refused-digit _ _ _ (column-in (at .before .before .before .before .before .before)) (entry-in (at .before .before .before .before))
+    ∙ law.way-out _ _ _ 11 (passed-9 (at .before .before .before .before))
     (law.not-offered-is (at .before .before .before .before .before .before .before .args .word) (at .before .before .before .credit .ensures) (at .before .before .credit2 .ensures) (at .before .credit3 .ensures) (m2-is at) (c .before .if3 .taken))
 
 entry-requires : tie.Need-entry-requires
@@ -129,13 +143,13 @@ returns-4 : tie.Need-returns-4
 returns-4 c =
     let at = c .before .before in
     c .refused-with4 .ensures
-    ∙ law.refused-above _ _ _ (column-in (at .before .before .before .before .before .before .before .before .before .before)) (entry-in (at .before .before .before .before .before .before .before .before)) (word-in (at .before .before .before)) (last-is at) (sym (ap (ltZ (pos 7)) (above-is at)) ∙ c .before .if4 .taken)
+    ∙ law.way-out _ _ _ 12 (passed-9 (entered at)) (word-in (at .before .before .before)) (too-high at (c .before .if4 .taken))
 
 returns-5 : tie.Need-returns-5
 returns-5 c =
     let at = c .before in
-    ap (λ (z : ℤ). let m : FinalClass = record { refusal = 0; class = z } in m) (above-is at)
-    ∙ law.given _ _ _ (column-in (at .before .before .before .before .before .before .before .before .before .before)) (entry-in (at .before .before .before .before .before .before .before .before)) (word-in (at .before .before .before)) (last-is at) (sym (ap (ltZ (pos 7)) (above-is at)) ∙ c .if4 .left)
+    ap acceptedFinal (above-is at ∙ last-is at)
+    ∙ law.way-out _ _ _ 0 (passed-9 (entered at)) (word-in (at .before .before .before)) (too-high at (c .if4 .left))
 
 pub final-class-spec : {M : Type 1} → statement M
 final-class-spec =

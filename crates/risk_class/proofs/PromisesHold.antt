@@ -1,65 +1,53 @@
 -- The promises of one intrinsic class and of one final class hold.
 use mathlib.Core.Path.{_≡_, refl, sym, ap, _∙_, subst}
-use mathlib.Core.Logic.{_⊎_, inl, inr, ⊎-elim}
-use mathlib.Core.Bool.{Bool, true, false, cond, not, _||_}
+use mathlib.Core.Logic.{⊎-elim}
+use mathlib.Core.Bool.{true, false, not}
 use Prim.Native.Nat.{ℕ, suc, _+_, _-_, _≤_, _<_}
 use native.Mathlib.Omega.{arith}
 use native.Mathlib.Nat.{le-refl}
-use borrow.Author.Tests.{lt-ltb, le-ltb, le-leb, eq-eqb, ne-eqb, eqb-false, ltb-false, not-false}
+use borrow.Author.Tests.{lt-ltb, le-ltb, le-leb, eq-eqb, eqb-false, ltb-false, not-false}
 use lib.Dec.{T, ltb, eqb}
 use lib.IntN.{ℤ, pos, negsuc, subℕ}
 use lib.Signed.{ltZ, leZ, _≤ℤ_}
-use Rattle.arithmetic.proofs.TestLaws.{lt-or-le, not-refused, neither, inside, any-is}
-use Rattle.risk_class.specs.ClassTable.{noClass, classAt, usedRow, wrongColumn, outsideTable, classRefusal, intrinsicClassOf}
-use Rattle.risk_class.specs.Mitigation.{creditOf, anyNotOffered, isEntry, afterM1, finalClass, mitigationRefusal, finalClassOf}
+use Rattle.arithmetic.specs.Refusals.{FirstToHold, AnswerPromise}
+use Rattle.arithmetic.proofs.RefusalLaws.{answer-promise}
+use Rattle.arithmetic.proofs.TestLaws.{lt-or-le, neither, inside, any-is}
+use Rattle.risk_class.specs.ClassTable.{noClass, classAt, usedRow, wrongColumn, outsideTable, entryIsNone, classTests, refusedClass, acceptedClass, intrinsicClassOf}
+use Rattle.risk_class.specs.Mitigation.{creditOf, anyNotOffered, isEntry, noEntry, afterM1, finalClass, finalTooHigh, mitigationTests, refusedFinal, acceptedFinal, finalClassOf}
+use Rattle.risk_class.specs.declared.class_table.IntrinsicClass.{IntrinsicClass}
+use Rattle.risk_class.specs.declared.mitigation.FinalClass.{FinalClass}
 use Rattle.risk_class.specs.Promises.{IntrinsicPromise, FinalPromise}
 use Rattle.risk_class.proofs.TableLaws.{class-le, floor-in, table-lower, entry-row}
 use Rattle.risk_class.proofs.ClassLaws.{InTable, in-table, used-in}
 use Rattle.risk_class.proofs.MitigationLaws.{credits}
 
--- a class is zero unless the refusal is 0
-unless : {A : Type 0} (r : ℕ) (x z : A) → (r ≡ 0 → ⊥) → cond (eqb r 0) x z ≡ z
-unless r x z h = ap (λ (t : Bool). cond t x z) (ne-eqb r 0 h)
-
-where-none : {A : Type 0} (r : ℕ) (x z : A) → r ≡ 0 → cond (eqb r 0) x z ≡ x
-where-none r x z h = ap (λ (t : Bool). cond t x z) (eq-eqb r 0 h)
-
 -- ---- the intrinsic class
 
 module _ (column row controlled : ℕ) where
-  listed-class : (a b : Bool) {r : ℕ} → r ≡ cond a 9 (cond b 10 0) → (r ≡ 0) ⊎ (r ≡ 9) ⊎ (r ≡ 10)
-  listed-class true b e = inr (inl e)
-  listed-class false true e = inr (inr e)
-  listed-class false false e = inl e
-
-  pub refusal-is : intrinsicClassOf column row controlled .refusal
-      ≡ cond (outsideTable column row controlled) 9 (cond (eqb (classAt (usedRow row controlled) column) noClass) 10 0)
-  unfolding intrinsicClassOf classRefusal
-  refusal-is = refl
-
-  zero-class : (intrinsicClassOf column row controlled .refusal ≡ 0 → ⊥) → intrinsicClassOf column row controlled .class ≡ 0
+  intrinsic-answer : AnswerPromise (λ (a : IntrinsicClass). a .refusal) (classTests column row controlled)
+      (acceptedClass (classAt (usedRow row controlled) column)) refusedClass (intrinsicClassOf column row controlled)
   unfolding intrinsicClassOf
-  zero-class h = unless (classRefusal column row controlled) (classAt (usedRow row controlled) column) 0 h
+  intrinsic-answer = answer-promise _ _ _ refl (λ n. refl) (classTests column row controlled) refl
+
+  pub intrinsic-accepted : outsideTable column row controlled ≡ false → entryIsNone column row controlled ≡ false
+      → intrinsicClassOf column row controlled .refusal ≡ 0
+  intrinsic-accepted o e = intrinsic-answer .exactly-when 0 .1 (o, (e, refl))
 
   module _ (ok : intrinsicClassOf column row controlled .refusal ≡ 0) where
     pub class-is : intrinsicClassOf column row controlled .class ≡ classAt (usedRow row controlled) column
-    unfolding intrinsicClassOf
-    class-is = where-none (classRefusal column row controlled) (classAt (usedRow row controlled) column) 0 ok
+    class-is = ap (λ (a : IntrinsicClass). a .class) (intrinsic-answer .if-accepted ok)
 
-    none-refused : (outsideTable column row controlled ≡ false) × (eqb (classAt (usedRow row controlled) column) noClass ≡ false)
-    none-refused =
-        let last : ℕ = cond (eqb (classAt (usedRow row controlled) column) noClass) 10 0 in
-        let h9 = not-refused (outsideTable column row controlled) 8 last (sym refusal-is ∙ ok) in
-        (h9 .0, not-refused (eqb (classAt (usedRow row controlled) column) noClass) 9 0 (h9 .1) .0)
+    tests-passed : FirstToHold (classTests column row controlled) 0
+    tests-passed = intrinsic-answer .exactly-when 0 .0 ok
 
     pub read : InTable column row controlled
-    read = in-table column row controlled (none-refused .0)
+    read = in-table column row controlled (tests-passed .0)
 
     pub used : (1 ≤ usedRow row controlled) × (usedRow row controlled ≤ 7)
     used = used-in row controlled (read .row-ge) (read .row-le)
 
     pub some-class : classAt (usedRow row controlled) column ≡ noClass → ⊥
-    some-class = eqb-false (classAt (usedRow row controlled) column) noClass (none-refused .1)
+    some-class = eqb-false (classAt (usedRow row controlled) column) noClass (tests-passed .1 .0)
 
   pub is-entry : (used : ℕ) → 1 ≤ used → used ≤ 7 → 1 ≤ classAt used column → isEntry column (classAt used column) ≡ true
   is-entry used u1 u7 h =
@@ -71,8 +59,7 @@ module _ (column row controlled : ℕ) where
 
   pub intrinsic-promise : IntrinsicPromise column row controlled
   intrinsic-promise = record {
-    listed = listed-class (outsideTable column row controlled) (eqb (classAt (usedRow row controlled) column) noClass) refusal-is;
-    zero-class = zero-class;
+    answer = intrinsic-answer;
     class-ge = λ ok. omega (arith, class-is ok, some-class ok);
     class-le = λ ok. rw (class-is ok) (class-le (usedRow row controlled) column (used ok .0) (used ok .1) (read ok .column-ge) (read ok .column-le));
     entry = λ ok. rw (class-is ok) (is-entry (usedRow row controlled) (used ok .0) (used ok .1) (omega (arith, some-class ok)));
@@ -106,20 +93,14 @@ difference-ge f d l =
 -- ---- the final class
 
 module _ (column class word : ℕ) where
-  listed-final : (a b c : Bool) {r : ℕ} → r ≡ cond a 9 (cond b 11 (cond c 12 0)) → (r ≡ 0) ⊎ (r ≡ 9) ⊎ (r ≡ 11) ⊎ (r ≡ 12)
-  listed-final true b c e = inr (inl e)
-  listed-final false true c e = inr (inr (inl e))
-  listed-final false false true e = inr (inr (inr e))
-  listed-final false false false e = inl e
-
-  pub final-refusal : finalClassOf column class word .refusal
-      ≡ cond (wrongColumn column || not (isEntry column class)) 9 (cond (anyNotOffered word) 11 (cond (ltZ (pos 7) (finalClass column class word)) 12 0))
-  unfolding finalClassOf mitigationRefusal
-  final-refusal = refl
-
-  zero-final : (finalClassOf column class word .refusal ≡ 0 → ⊥) → finalClassOf column class word .class ≡ pos 0
+  final-answer : AnswerPromise (λ (a : FinalClass). a .refusal) (mitigationTests column class word) (acceptedFinal (finalClass column class word))
+      refusedFinal (finalClassOf column class word)
   unfolding finalClassOf
-  zero-final h = unless (mitigationRefusal column class word) (finalClass column class word) (pos 0) h
+  final-answer = answer-promise _ _ _ refl (λ n. refl) (mitigationTests column class word) refl
+
+  pub final-accepted : noEntry column class ≡ false → anyNotOffered word ≡ false → finalTooHigh column class word ≡ false
+      → finalClassOf column class word .refusal ≡ 0
+  final-accepted e o h = final-answer .exactly-when 0 .1 (e, (o, (h, refl)))
 
   pub record Known : Type 0 where
     pub column-ge : 1 ≤ column
@@ -130,24 +111,19 @@ module _ (column class word : ℕ) where
 
   module _ (ok : finalClassOf column class word .refusal ≡ 0) where
     pub final-is : finalClassOf column class word .class ≡ finalClass column class word
-    unfolding finalClassOf
-    final-is = where-none (mitigationRefusal column class word) (finalClass column class word) (pos 0) ok
+    final-is = ap (λ (a : FinalClass). a .class) (final-answer .if-accepted ok)
 
     pub known : Known
     known =
-        let b : ℕ = cond (ltZ (pos 7) (finalClass column class word)) 12 0 in
-        let a : ℕ = cond (anyNotOffered word) 11 b in
-        let h9 = not-refused (wrongColumn column || not (isEntry column class)) 8 a (sym final-refusal ∙ ok) in
-        let h11 = not-refused (anyNotOffered word) 10 b (h9 .1) in
-        let h12 = not-refused (ltZ (pos 7) (finalClass column class word)) 11 0 (h11 .1) in
-        let n = neither (wrongColumn column) (not (isEntry column class)) (h9 .0) in
+        let passed = final-answer .exactly-when 0 .0 ok in
+        let n = neither (wrongColumn column) (not (isEntry column class)) (passed .0) in
         let c = inside 1 5 column (n .0) in
         record {
           column-ge = c .0;
           column-le = c .1;
           entry = not-false _ (n .1);
-          offered = h11 .0;
-          small = ltb-false (7 + creditOf word 3) (afterM1 column class word) (sym (above-is (afterM1 column class word) (creditOf word 3)) ∙ h12 .0);
+          offered = passed .1 .0;
+          small = ltb-false (7 + creditOf word 3) (afterM1 column class word) (sym (above-is (afterM1 column class word) (creditOf word 3)) ∙ passed .1 .1 .0);
         }
 
     -- the floor isn't above the class, so no M1 credit raises it
@@ -161,8 +137,7 @@ module _ (column class word : ℕ) where
 
   pub final-promise : FinalPromise column class word
   final-promise = record {
-    listed = listed-final (wrongColumn column || not (isEntry column class)) (anyNotOffered word) (ltZ (pos 7) (finalClass column class word)) final-refusal;
-    zero-class = zero-final;
+    answer = final-answer;
     class-ge = λ ok. rw (final-is ok)
         (difference-ge (afterM1 column class word) (creditOf word 3) (omega (arith, m1-le ok, credits word (known ok .offered) .m2)));
     class-le = λ ok. rw (final-is ok) (difference-le (afterM1 column class word) (creditOf word 3) 7 (known ok .small));

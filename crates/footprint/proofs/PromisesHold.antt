@@ -1,20 +1,19 @@
 -- The promises of specs/Promises.antt hold.
 use mathlib.Core.Path.{_≡_, refl, sym, ap, _∙_}
-use mathlib.Core.Logic.{_⊎_, inl, inr}
-use mathlib.Core.Bool.{Bool, true, false, cond}
 use mathlib.Core.List.{List}
 use Prim.Native.Nat.{ℕ, zero, suc, _+_, _*_, _^_, _≤_, _<_}
 use native.Mathlib.Nat.{le-of-eq, le-trans, le-of-suc-le-suc, mul-le-mul, one-mul}
 use native.Mathlib.Numerals.{add-one}
 use native.Mathlib.Omega.{arith}
-use borrow.Author.Tests.{lt-ltb, eq-eqb, ne-eqb, eqb-true, eqb-false}
+use borrow.Author.Tests.{lt-ltb, eqb-false}
 use lib.Count.{ones}
-use lib.Dec.{eqb}
 use lib.ListN.{getD}
 use Rattle.arithmetic.specs.SumsAndMaxima.{sumBelow, maxBelow, firstMaxBelow}
-use Rattle.arithmetic.proofs.TestLaws.{not-refused, inside}
+use Rattle.arithmetic.specs.Refusals.{FirstToHold}
+use Rattle.arithmetic.proofs.RefusalLaws.{answer-promise}
+use Rattle.arithmetic.proofs.TestLaws.{inside}
 use Rattle.arithmetic.proofs.SumLaws.{sum-same, sum-le, sum-mono, max-mono, le-max, first-lt, first-at, first-before, sum-rows}
-use Rattle.footprint.specs.Map.{mapCells, mapRows, mapColumns, largestCount, leastArea, largestArea, countAt, bitAt, markAt, keyAt, peopleAt, tableRow, cellsIn, wrongLength, wrongArea, wrongCount, noMark, footprintRefusal, refusedFootprint, foundFootprint, footprintOf}
+use Rattle.footprint.specs.Map.{mapCells, mapRows, mapColumns, largestCount, leastArea, largestArea, countAt, bitAt, markAt, keyAt, peopleAt, tableRow, cellsIn, footprintTests, foundFootprint, footprintOf}
 use Rattle.footprint.specs.Promises.{EmptyCell, FootprintRefusal, AcceptedFootprint, FootprintRanges, WorstCell, SetBits, FootprintPromise, Monotone}
 use Rattle.footprint.specs.declared.Footprint.{Footprint}
 use Rattle.footprint.proofs.CellLaws.{mark-lt, marked-le, ones-of-row, no-key, row-mono, row-ge, row-le, rowOfKey, row-of-largest}
@@ -25,85 +24,36 @@ pub empty-cell : EmptyCell
 unfolding tableRow
 empty-cell area l = simp (lt-ltb 0 (5 * area) (omega arith))
 
--- ---- refusals
-
-listed-refusal : (a b c d : Bool) {r : ℕ} → r ≡ cond a 5 (cond b 6 (cond c 7 (cond d 8 0)))
-    → (r ≡ 0) ⊎ (r ≡ 5) ⊎ (r ≡ 6) ⊎ (r ≡ 7) ⊎ (r ≡ 8)
-listed-refusal true b c d e = inr (inl e)
-listed-refusal false true c d e = inr (inr (inl e))
-listed-refusal false false true d e = inr (inr (inr (inl e)))
-listed-refusal false false false true e = inr (inr (inr (inr e)))
-listed-refusal false false false false e = inl e
-
-module _ (counts marks : List ℕ) (area : ℕ) where
-  answer-refusal : footprintOf counts marks area .refusal ≡ footprintRefusal counts marks area
-  unfolding footprintOf
-  answer-refusal = by-test (eqb (footprintRefusal counts marks area) 0) refl
-    where
-      by-test : (t : Bool) → eqb (footprintRefusal counts marks area) 0 ≡ t
-          → (cond t (foundFootprint counts marks area) (refusedFootprint (footprintRefusal counts marks area))) .refusal ≡ footprintRefusal counts marks area
-      by-test true e = sym (eqb-true (footprintRefusal counts marks area) 0 e)
-      by-test false e = refl
-
-  answer-found : footprintRefusal counts marks area ≡ 0 → footprintOf counts marks area ≡ foundFootprint counts marks area
-  unfolding footprintOf
-  answer-found z = simp (eq-eqb (footprintRefusal counts marks area) 0 z)
-
-  answer-zeros : (footprintRefusal counts marks area ≡ 0 → ⊥) → footprintOf counts marks area ≡ refusedFootprint (footprintRefusal counts marks area)
-  unfolding footprintOf
-  answer-zeros z = simp (ne-eqb (footprintRefusal counts marks area) 0 z)
-
-  refusal-is : footprintOf counts marks area .refusal
-      ≡ cond (wrongLength counts marks) 5 (cond (wrongArea area) 6 (cond (wrongCount counts) 7 (cond (noMark marks) 8 0)))
-  unfolding footprintRefusal
-  refusal-is = answer-refusal
-
-  pub refusal : FootprintRefusal counts marks area
-  refusal = record {
-    listed = listed-refusal (wrongLength counts marks) (wrongArea area) (wrongCount counts) (noMark marks) refusal-is;
-    zeros = λ h. answer-zeros (λ z. h (answer-refusal ∙ z)) ∙ ap refusedFootprint (sym answer-refusal);
-  }
+pub refusal : (counts marks : List ℕ) (area : ℕ) → FootprintRefusal counts marks area
+unfolding footprintOf
+refusal counts marks area = answer-promise _ _ _ refl (λ n. refl) (footprintTests counts marks area) refl
 
 -- ---- an input that isn't refused
 
 module _ (counts marks : List ℕ) (area : ℕ) (ok : footprintOf counts marks area .refusal ≡ 0) where
-  record Tests : Type 0 where
-    lengths-in : wrongLength counts marks ≡ false
-    area-in : wrongArea area ≡ false
-    counts-in : wrongCount counts ≡ false
-    marks-in : noMark marks ≡ false
-
-  tests : Tests
-  tests =
-      let c : ℕ = cond (noMark marks) 8 0 in
-      let b : ℕ = cond (wrongCount counts) 7 c in
-      let a : ℕ = cond (wrongArea area) 6 b in
-      let h5 = not-refused (wrongLength counts marks) 4 a (sym (refusal-is counts marks area) ∙ ok) in
-      let h6 = not-refused (wrongArea area) 5 b (h5 .1) in
-      let h7 = not-refused (wrongCount counts) 6 c (h6 .1) in
-      let h8 = not-refused (noMark marks) 7 0 (h7 .1) in
-      record { lengths-in = h5 .0; area-in = h6 .0; counts-in = h7 .0; marks-in = h8 .0 }
+  tests : FirstToHold (footprintTests counts marks area) 0
+  tests = refusal counts marks area .exactly-when 0 .0 ok
 
   found-is : footprintOf counts marks area ≡ foundFootprint counts marks area
-  found-is = answer-found counts marks area (sym (answer-refusal counts marks area) ∙ ok)
+  found-is = refusal counts marks area .if-accepted ok
 
   pub accepted : AcceptedFootprint counts marks area
   accepted =
-      let l = lengths counts marks (tests .lengths-in) in
-      let a = inside leastArea largestArea area (tests .area-in) in
+      let l = lengths counts marks (tests .0) in
+      let a = inside leastArea largestArea area (tests .1 .0) in
       record {
         counts-length = l .0;
         marks-length = l .1;
         area-ge = a .0;
         area-le = a .1;
-        counts-le = counts-small counts (tests .counts-in);
+        counts-le = counts-small counts (tests .1 .1 .0);
         answer = found-is;
       }
 
   -- ---- the worst cell
 
   some-cells : 1 ≤ cellsIn marks
-  some-cells = omega (arith, eqb-false (cellsIn marks) 0 (tests .marks-in))
+  some-cells = omega (arith, eqb-false (cellsIn marks) 0 (tests .1 .1 .1 .0))
 
   abbrev worst : ℕ
   worst = firstMaxBelow (keyAt counts marks) mapCells
@@ -156,7 +106,7 @@ module _ (counts marks : List ℕ) (area : ℕ) (ok : footprintOf counts marks a
         row-le = rw (worst-cell .row) (row-le area _);
         place-lt = rw place (first-lt (keyAt counts marks) mapCells (omega arith));
         people-le = rw people (sum-le (peopleAt counts marks) largestCount mapCells
-            (λ p l. le-trans (marked-le (markAt marks p) (countAt counts p) (mark-lt marks p)) (counts-small counts (tests .counts-in) p l)));
+            (λ p l. le-trans (marked-le (markAt marks p) (countAt counts p) (mark-lt marks p)) (counts-small counts (tests .1 .1 .0) p l)));
         cells-ge = rw cells some-cells;
         cells-le = rw cells (omega (arith, sum-le (markAt marks) 1 mapCells (λ p l. le-of-suc-le-suc (mark-lt marks p))));
       }
