@@ -8,13 +8,12 @@ use native.Mathlib.Omega.{arith}
 use borrow.Author.Tests.{le-ltb, eqb-true, eqb-false}
 use lib.Dec.{ltb, eqb}
 use lib.ListN.{length}
-use Rattle.arithmetic.specs.Refusals.{OneOf}
-use Rattle.arithmetic.proofs.RefusalLaws.{one-of-le, one-of-more}
+use Rattle.arithmetic.specs.Refusals.{numbers, OneOf}
+use Rattle.arithmetic.proofs.RefusalLaws.{first-listed, one-of-le, one-of-more}
 use Rattle.assessment.specs.declared.Assessment.{Assessment}
 use Rattle.assessment.specs.Assessment.{refusedAssessment, assessmentRefusals}
 use Rattle.assessment.proofs.GivenOrZero.{assessment-is-given-or-zero}
-use Rattle.case_text.specs.Layout.{mapRows, mapCells, textLength}
-use Rattle.case_text.specs.Text.{isText, headOf, marksOf, countsOf, readingRefusal}
+use Rattle.case_text.specs.Text.{MapBuffers, headOf, marksOf, countsOf, readingTests, readingRefusal}
 use Rattle.frame.specs.Layout.{frameLength}
 use Rattle.frame.specs.FrameLaw.{refusalIn}
 use Rattle.frame.proofs.FrameLawHolds.{frame-law}
@@ -22,7 +21,7 @@ use Rattle.ground_risk_case.specs.Case.{caseRefusals, printedFields, ass
 use Rattle.ground_risk_case.specs.EndToEnd.{AnswerShown}
 use Rattle.ground_risk_case.proofs.EndToEndHolds.{end-to-end}
 
-module _ (t : List ℕ) (counts marks : ℕ) where
+module _ (t : List ℕ) (lent : MapBuffers) where
   abbrev Listed : ℕ → Type 0
   Listed n = OneOf n (0 ∷ caseRefusals)
 
@@ -40,32 +39,30 @@ module _ (t : List ℕ) (counts marks : ℕ) where
       one-of-more _ (0 ∷ assessmentRefusals) (0 ∷ caseRefusals) refl
       (assessment-is-given-or-zero (headOf t .dimension) (headOf t .mass) (headOf t .speed) (countsOf t) (marksOf t) (headOf t .«cell_area») (headOf t .controlled) (headOf t .word) .listed)
 
-  reading-listed : Listed (readingRefusal t counts marks)
+  reading-listed : Listed (readingRefusal t lent)
   unfolding readingRefusal
-  reading-listed = either (not (eqb (length t) textLength)) (inr (inr (inl refl)))
-      (either (not (eqb counts mapCells) || not (eqb marks mapRows)) (inr (inr (inr (inl refl))))
-      (either (not (isText t)) (inr (inr (inr (inr (inl refl))))) (inl refl)))
+  reading-listed = one-of-more _ (0 ∷ numbers (readingTests t lent)) (0 ∷ caseRefusals) refl (first-listed (readingTests t lent))
 
-  outcome-listed : Listed (outcomeOf t counts marks .refusal)
+  outcome-listed : Listed (outcomeOf t lent .refusal)
   unfolding outcomeOf
   outcome-listed =
-      outcome-either (eqb (readingRefusal t counts marks) 0) (assessmentIn t) (refusedAssessment (readingRefusal t counts marks)) assessment-listed reading-listed
+      outcome-either (eqb (readingRefusal t lent) 0) (assessmentIn t) (refusedAssessment (readingRefusal t lent)) assessment-listed reading-listed
 
-  pub answer-shown : (frame : List ℕ) → AnswerShown t counts marks frame
+  pub answer-shown : (frame : List ℕ) → AnswerShown t lent frame
   unfolding caseAnswer frameLeft
   answer-shown frame = record {
     listed = either (ltb (length frame) frameLength) (inr (inl refl)) outcome-listed;
-    shown = λ long. by-test long (eqb (outcomeOf t counts marks .refusal) 0) refl;
+    shown = λ long. by-test long (eqb (outcomeOf t lent .refusal) 0) refl;
   }
     where
-      answer-is : frameLength ≤ length frame → caseAnswer t counts marks (length frame) ≡ outcomeOf t counts marks .refusal
+      answer-is : frameLength ≤ length frame → caseAnswer t lent frame ≡ outcomeOf t lent .refusal
       answer-is long = simp (le-ltb (length frame) frameLength long)
 
-      by-test : frameLength ≤ length frame → (b : Bool) → eqb (outcomeOf t counts marks .refusal) 0 ≡ b →
-          refusalIn (frameLeft t counts marks frame) ≡ caseAnswer t counts marks (length frame)
+      by-test : frameLength ≤ length frame → (b : Bool) → eqb (outcomeOf t lent .refusal) 0 ≡ b →
+          refusalIn (frameLeft t lent frame) ≡ caseAnswer t lent frame
       by-test long true e =
-          let none : caseAnswer t counts marks (length frame) ≡ 0 = answer-is long ∙ eqb-true _ 0 e
-          in end-to-end t counts marks frame none .0 ∙ sym none
+          let none : caseAnswer t lent frame ≡ 0 = answer-is long ∙ eqb-true _ 0 e
+          in end-to-end t lent frame none .0 ∙ sym none
       by-test long false e =
-          frame-law .refusal-shown (outcomeOf t counts marks .refusal) (printedFields (outcomeOf t counts marks)) frame long (eqb-false _ 0 e) (omega (arith, one-of-le 15 _ (0 ∷ caseRefusals) refl outcome-listed))
+          frame-law .refusal-shown (outcomeOf t lent .refusal) (printedFields (outcomeOf t lent)) frame long (eqb-false _ 0 e) (omega (arith, one-of-le 15 _ (0 ∷ caseRefusals) refl outcome-listed))
           ∙ sym (answer-is long)

@@ -132,30 +132,30 @@ module _ (t : List ℕ) (none : assessmentIn t .refusal ≡ 0) where
           }
 
 pub end-to-end : EndToEnd
-end-to-end t counts marks frame h = told
+end-to-end t lent frame h = told
   where
     refusal : ℕ
-    refusal = readingRefusal t counts marks
+    refusal = readingRefusal t lent
 
-    tested : (ltb (length frame) frameLength ≡ false) × (outcomeOf t counts marks .refusal ≡ 0)
-    tested = unfold caseAnswer in not-refused (ltb (length frame) frameLength) 14 (outcomeOf t counts marks .refusal) h
+    tested : (ltb (length frame) frameLength ≡ false) × (outcomeOf t lent .refusal ≡ 0)
+    tested = unfold caseAnswer in not-refused (ltb (length frame) frameLength) 14 (outcomeOf t lent .refusal) h
 
     read : refusal ≡ 0
     read = went-on (λ (a : Assessment). a .refusal) refusal (assessmentIn t) (refusedAssessment refusal) refl (unfold outcomeOf in tested .1)
 
-    outcome-is : outcomeOf t counts marks ≡ assessmentIn t
+    outcome-is : outcomeOf t lent ≡ assessmentIn t
     outcome-is = unfold outcomeOf in simp (eq-eqb refusal 0 read)
 
     none : assessmentIn t .refusal ≡ 0
     none = sym (ap (λ (a : Assessment). a .refusal) outcome-is) ∙ tested .1
 
-    left-is : frameLeft t counts marks frame ≡ framed 0 (printedFields (assessmentIn t)) frame
+    left-is : frameLeft t lent frame ≡ framed 0 (printedFields (assessmentIn t)) frame
     left-is = unfold frameLeft in rw (outcome-is, none)
 
     shows : Shows (framed 0 (printedFields (assessmentIn t)) frame) (printedFields (assessmentIn t))
     shows = frame-law .fields-shown (printedFields (assessmentIn t)) frame (ltb-false _ _ (tested .0)) (fits t none)
 
-    told : (refusalIn (frameLeft t counts marks frame) ≡ 0) × FrameTells t (fieldsIn (frameLeft t counts marks frame))
+    told : (refusalIn (frameLeft t lent frame) ≡ 0) × FrameTells t (fieldsIn (frameLeft t lent frame))
     told = (
       ap refusalIn left-is ∙ shows .accepted,
       subst (λ (f : FrameFields). FrameTells t f) (sym (ap fieldsIn left-is ∙ shows .fields)) (tells t none),

@@ -31,8 +31,9 @@ use Rattle.assessment.specs.Working.{afterClass, afterFootprint, workingOn}
 use Rattle.assessment.specs.Assessment.{assessedBy, assessmentOf}
 use Rattle.case_text.specs.declared.CaseHead.{CaseHead}
 use Rattle.case_text.specs.Layout.{mapRows, mapCells}
-use Rattle.case_text.specs.Text.{countsOf, marksOf, readingRefusal}
-use Rattle.case_text.specs.TextLaw.{CaseFields, textOf, fieldsOf as fieldsIn, Fits}
+use Rattle.case_text.specs.Text.{MapBuffers, countsOf, marksOf, readingRefusal}
+use Rattle.case_text.specs.TextLaw.{CaseFields, textOf, fieldsOf as fieldsIn, Fits, RightLengths}
+use Rattle.case_text.proofs.ReadingLaws.{accepted-none}
 use Rattle.case_text.proofs.TextLawHolds.{text-law}
 use Rattle.frame.specs.declared.FrameFields.{FrameFields}
 use Rattle.frame.specs.Layout.{frameLength}
@@ -55,27 +56,28 @@ p16-assessment : (counts marks : List ℕ) → P16Map counts marks →
 unfolding assessmentOf assessedBy workingOn afterFootprint afterClass sheetOf linesOf withLines flagOf columnOf columnBy areaOf totalOf savingOf runOf divUp intrinsicClassOf classAt finalClassOf creditAt anyBelow
 p16-assessment counts marks h = rw (p16-footprint counts marks h)
 
-p16-told : (t : List ℕ) → P16Text t → told (outcomeOf t mapCells mapRows) ≡ record { refusal = 0; fields = p16Fields }
-unfolding outcomeOf assessmentIn
-p16-told t h =
-    simp (eq-eqb _ _ (h .read))
-    (ap (λ (x : CaseHead). told (assessmentOf (x .dimension) (x .mass) (x .speed) (countsOf t) (marksOf t) (x .«cell_area») (x .controlled) (x .word))) (h .head)
-    ∙ p16-assessment (countsOf t) (marksOf t) (h .map))
-
 p16-line : printed 0 p16Fields ≡ p16Line
 unfolding printed
 p16-line = worked-lines .p16
 
-p16-printed : (t : List ℕ) → P16Text t → printed (outcomeOf t mapCells mapRows .refusal) (printedFields (outcomeOf t mapCells mapRows)) ≡ p16Line
-p16-printed t h = ap (λ (x : Told). printed (x .refusal) (x .fields)) (p16-told t h) ∙ p16-line
+module _ (t : List ℕ) (h : P16Text t) (lent : MapBuffers) (right : RightLengths lent) where
+  p16-told : told (outcomeOf t lent) ≡ record { refusal = 0; fields = p16Fields }
+  unfolding outcomeOf assessmentIn
+  p16-told =
+      simp (eq-eqb _ _ (h .read lent right))
+      (ap (λ (x : CaseHead). told (assessmentOf (x .dimension) (x .mass) (x .speed) (countsOf t) (marksOf t) (x .«cell_area») (x .controlled) (x .word))) (h .head)
+      ∙ p16-assessment (countsOf t) (marksOf t) (h .map))
 
-p16-answer : (t : List ℕ) → P16Text t → (frame : List ℕ) → frameLength ≤ length frame → caseAnswer t mapCells mapRows (length frame) ≡ 0
-unfolding caseAnswer
-p16-answer t h frame long = simp (le-ltb (length frame) frameLength long) (ap (λ (x : Told). x .refusal) (p16-told t h))
+  p16-printed : printed (outcomeOf t lent .refusal) (printedFields (outcomeOf t lent)) ≡ p16Line
+  p16-printed = ap (λ (x : Told). printed (x .refusal) (x .fields)) p16-told ∙ p16-line
 
-p16-bytes : (t : List ℕ) → P16Text t → (frame : List ℕ) → frameLength ≤ length frame → frameLeft t mapCells mapRows frame ≡ stored 0 p16Line frame
-unfolding frameLeft framed
-p16-bytes t h frame long = simp (le-ltb (length frame) frameLength long) (ap (λ (l : List ℕ). stored 0 l frame) (p16-printed t h))
+  p16-answer : (frame : List ℕ) → frameLength ≤ length frame → caseAnswer t lent frame ≡ 0
+  unfolding caseAnswer
+  p16-answer frame long = simp (le-ltb (length frame) frameLength long) (ap (λ (x : Told). x .refusal) p16-told)
+
+  p16-bytes : (frame : List ℕ) → frameLength ≤ length frame → frameLeft t lent frame ≡ stored 0 p16Line frame
+  unfolding frameLeft framed
+  p16-bytes frame long = simp (le-ltb (length frame) frameLength long) (ap (λ (l : List ℕ). stored 0 l frame) p16-printed)
 
 -- ---- the text of P16's fields
 
@@ -117,9 +119,9 @@ p16-map =
       other-marks = only-others (2 ^ 63) mapRows;
     }
 
-p16-read : readingRefusal (textOf p16Case) mapCells mapRows ≡ 0
-unfolding readingRefusal
-p16-read = simp (text-law .text-long p16Case, text-law .text-accepted p16Case)
+p16-read : (lent : MapBuffers) → RightLengths lent → readingRefusal (textOf p16Case) lent ≡ 0
+p16-read lent right =
+    accepted-none (textOf p16Case) lent (record { text-long = text-law .text-long p16Case; buffers = right; text = text-law .text-accepted p16Case })
 
 p16-text : P16Text (textOf p16Case)
 p16-text =
@@ -127,14 +129,14 @@ p16-text =
     in record {
       read = p16-read;
       head = ap (λ (f : CaseFields). f .head) is;
-      map = subst (λ (f : CaseFields). P16Map (f .counts) (f .marks)) (sym is) p16-map;
+      map = subst (λ (f : CaseFields). P16Map (f .buffers .counts) (f .buffers .marks)) (sym is) p16-map;
     }
 
 p16-holds : P16Holds
 p16-holds =
     record {
       text = p16-text;
-      fields = λ t h. ap (λ (x : Told). x .fields) (p16-told t h);
+      fields = λ t h lent right. ap (λ (x : Told). x .fields) (p16-told t h lent right);
       answer = p16-answer;
       bytes = p16-bytes;
     }

@@ -7,69 +7,54 @@ use lib.ListN.{length}
 use Rattle.assessment.specs.declared.Assessment.{Assessment}
 use Rattle.assessment.specs.Assessment.{refusedAssessment, assessmentOf}
 use Rattle.case_text.specs.declared.Reading.{Reading}
-use Rattle.case_text.specs.Text.{headOf, marksOf, countsOf, readingRefusal, readingOf, leftIn, ReadingPromise}
+use Rattle.case_text.specs.Text.{MapBuffers, readingRefusal, ReadingContract}
+use Rattle.case_text.specs.Promises.{ReadingPromise}
+use Rattle.case_text.proofs.PromisesHold.{refusal-is, reading-promise}
 use Rattle.frame.specs.declared.FrameFields.{FrameFields}
 use Rattle.frame.specs.Layout.{frameLength}
 use Rattle.frame.specs.Frame.{framed}
-use Rattle.ground_risk_case.specs.Case.{printedFields, assessmentIn, outcomeOf, caseAnswer, frameLeft, keptUnder15, CasePromise}
+use Rattle.ground_risk_case.specs.Case.{printedFields, assessmentIn, outcomeOf, caseAnswer, frameLeft, keptUnder15, CaseContract}
 
-module _ (text counts marks frame : List ℕ) where
-  pub refused-15 : length frame < frameLength → CasePromise text counts marks frame 15 counts marks frame
+module _ (text : List ℕ) (lent : MapBuffers) (frame : List ℕ) where
+  pub refused-15 : length frame < frameLength → CaseContract text lent frame 15 lent frame
   unfolding caseAnswer frameLeft keptUnder15 framed
   refused-15 h =
       let short = lt-ltb (length frame) frameLength h
-      in record { answers = simp short; frame-left = simp short; counts-left = simp short; marks-left = simp short }
+      in record { answers = simp short; map-left = simp short; frame-left = simp short }
 
-  abbrev refusal : ℕ
-  refusal = readingRefusal text (length counts) (length marks)
-
-  abbrev outcome : Assessment
-  outcome = outcomeOf text (length counts) (length marks)
-
-  module _ (long : frameLength ≤ length frame) {reading : Reading} {counts′ marks′ : List ℕ} (read : ReadingPromise text counts marks reading counts′ marks′) where
-    refusal-is : reading .refusal ≡ refusal
-    unfolding readingOf
-    refusal-is = ap (λ (x : Reading). x .refusal) (read .answer)
+  module _ (long : frameLength ≤ length frame) {reading : Reading} {lent′ : MapBuffers} (read : ReadingContract text lent reading lent′) where
+    reading-refusal : reading .refusal ≡ readingRefusal text lent
+    reading-refusal = ap (λ (x : Reading). x .refusal) (read .answers) ∙ refusal-is text lent
 
     -- the buffers are as the reading leaves them, whatever the outcome
-    printed : {a : Assessment} {fields : FrameFields} {frame′ : List ℕ} → a ≡ outcome → fields ≡ printedFields a → frame′ ≡ framed (a .refusal) fields frame →
-        CasePromise text counts marks frame (a .refusal) counts′ marks′ frame′
+    printed : {a : Assessment} {fields : FrameFields} {frame′ : List ℕ} → a ≡ outcomeOf text lent → fields ≡ printedFields a → frame′ ≡ framed (a .refusal) fields frame →
+        CaseContract text lent frame (a .refusal) lent′ frame′
     unfolding caseAnswer frameLeft keptUnder15
     printed e f g =
         let enough = le-ltb (length frame) frameLength long
         in record {
           answers = simp (enough, e);
+          map-left = simp enough (read .left);
           frame-left = g ∙ simp (f, e);
-          counts-left = simp enough (read .counts-left);
-          marks-left = simp enough (read .marks-left);
         }
 
     pub ended-by-reading : {a : Assessment} {fields : FrameFields} {frame′ : List ℕ} → (reading .refusal ≡ 0 → ⊥) → a ≡ refusedAssessment (reading .refusal) → fields ≡ printedFields a →
-        frame′ ≡ framed (reading .refusal) fields frame → CasePromise text counts marks frame (reading .refusal) counts′ marks′ frame′
+        frame′ ≡ framed (reading .refusal) fields frame → CaseContract text lent frame (reading .refusal) lent′ frame′
     ended-by-reading {a} {fields} {frame′} h e f g =
         let same : a .refusal ≡ reading .refusal = ap (λ (x : Assessment). x .refusal) e
-        in let p : CasePromise text counts marks frame (a .refusal) counts′ marks′ frame′ = printed (e ∙ outcome-is) f (rw same g)
+        in let p : CaseContract text lent frame (a .refusal) lent′ frame′ = printed (e ∙ outcome-is) f (rw same g)
         in rw same at p
       where
-        outcome-is : refusedAssessment (reading .refusal) ≡ outcome
-        outcome-is = unfold outcomeOf in simp (← refusal-is, ne-eqb (reading .refusal) 0 h)
+        outcome-is : refusedAssessment (reading .refusal) ≡ outcomeOf text lent
+        outcome-is = unfold outcomeOf in simp (← reading-refusal, ne-eqb (reading .refusal) 0 h)
 
     pub not-ended : {a : Assessment} {fields : FrameFields} {frame′ : List ℕ} → reading .refusal ≡ 0 →
-        a ≡ assessmentOf (reading .head .dimension) (reading .head .mass) (reading .head .speed) counts′ marks′ (reading .head .«cell_area») (reading .head .controlled) (reading .head .word) →
-        fields ≡ printedFields a → frame′ ≡ framed (a .refusal) fields frame → CasePromise text counts marks frame (a .refusal) counts′ marks′ frame′
+        a ≡ assessmentOf (reading .head .dimension) (reading .head .mass) (reading .head .speed) (lent′ .counts) (lent′ .marks) (reading .head .«cell_area») (reading .head .controlled) (reading .head .word) →
+        fields ≡ printedFields a → frame′ ≡ framed (a .refusal) fields frame → CaseContract text lent frame (a .refusal) lent′ frame′
     not-ended h e f g = printed (e ∙ outcome-is) f g
       where
-        none : refusal ≡ 0
-        none = sym refusal-is ∙ h
+        promise : ReadingPromise text lent reading lent′
+        promise = reading-promise text lent read
 
-        head-is : reading .head ≡ headOf text
-        head-is = ap (λ (x : Reading). x .head) (read .answer) ∙ unfold readingOf in simp (eq-eqb refusal 0 none)
-
-        counts-are : counts′ ≡ countsOf text
-        counts-are = read .counts-left ∙ unfold leftIn in simp (eq-eqb refusal 0 none)
-
-        marks-are : marks′ ≡ marksOf text
-        marks-are = read .marks-left ∙ unfold leftIn in simp (eq-eqb refusal 0 none)
-
-        outcome-is : assessmentOf (reading .head .dimension) (reading .head .mass) (reading .head .speed) counts′ marks′ (reading .head .«cell_area») (reading .head .controlled) (reading .head .word) ≡ outcome
-        outcome-is = unfold outcomeOf assessmentIn in simp (eq-eqb refusal 0 none, head-is, counts-are, marks-are)
+        outcome-is : assessmentOf (reading .head .dimension) (reading .head .mass) (reading .head .speed) (lent′ .counts) (lent′ .marks) (reading .head .«cell_area») (reading .head .controlled) (reading .head .word) ≡ outcomeOf text lent
+        outcome-is = unfold outcomeOf assessmentIn in simp (eq-eqb _ 0 (sym reading-refusal ∙ h), promise .refusal .if-accepted h, promise .filled h)

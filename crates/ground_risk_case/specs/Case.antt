@@ -7,7 +7,7 @@ use lib.Dec.{ltb, eqb}
 use lib.ListN.{length}
 use Rattle.assessment.specs.declared.Assessment.{Assessment}
 use Rattle.assessment.specs.Assessment.{refusedAssessment, assessmentRefusals, assessmentOf}
-use Rattle.case_text.specs.Text.{headOf, marksOf, countsOf, readingRefusal, leftIn}
+use Rattle.case_text.specs.Text.{MapBuffers, headOf, marksOf, countsOf, readingRefusal, mapBuffersLeft}
 use Rattle.frame.specs.declared.FrameFields.{FrameFields}
 use Rattle.frame.specs.Layout.{frameLength}
 use Rattle.frame.specs.Frame.{framed}
@@ -37,28 +37,24 @@ assessmentIn t =
     let head = headOf t
     in assessmentOf (head .dimension) (head .mass) (head .speed) (countsOf t) (marksOf t) (head .«cell_area») (head .controlled) (head .word)
 
--- from the reading on, for lent buffers of so many counts and marks: the reading's refusal, or the assessment of the text
-unfoldable pub outcomeOf : List ℕ → ℕ → ℕ → Assessment
-outcomeOf t counts marks =
-    cond (eqb (readingRefusal t counts marks) 0) (assessmentIn t) (refusedAssessment (readingRefusal t counts marks))
+-- from the reading on, for these lent map buffers: the reading's refusal, or the assessment of the text
+unfoldable pub outcomeOf : List ℕ → MapBuffers → Assessment
+outcomeOf t lent = cond (eqb (readingRefusal t lent) 0) (assessmentIn t) (refusedAssessment (readingRefusal t lent))
 
 -- "Its answer is the refusal number alone, 0 when there is none."
-unfoldable pub caseAnswer : List ℕ → ℕ → ℕ → ℕ → ℕ
-caseAnswer t counts marks frame = cond (ltb frame frameLength) 15 (outcomeOf t counts marks .refusal)
+unfoldable pub caseAnswer : List ℕ → MapBuffers → List ℕ → ℕ
+caseAnswer t lent frame = cond (ltb (length frame) frameLength) 15 (outcomeOf t lent .refusal)
 
 -- the frame buffer at exit
-unfoldable pub frameLeft : List ℕ → ℕ → ℕ → List ℕ → List ℕ
-frameLeft t counts marks frame = framed (outcomeOf t counts marks .refusal) (printedFields (outcomeOf t counts marks)) frame
+unfoldable pub frameLeft : List ℕ → MapBuffers → List ℕ → List ℕ
+frameLeft t lent frame = framed (outcomeOf t lent .refusal) (printedFields (outcomeOf t lent)) frame
 
--- "A reading that succeeds fills both buffers, also when a later refusal is printed; under 15 they keep their content."
-unfoldable pub keptUnder15 : ℕ → List ℕ → List ℕ → List ℕ
-keptUnder15 frame left buffer = cond (ltb frame frameLength) buffer left
+-- the map buffers at exit: "A reading that succeeds fills both buffers, also when a later refusal is printed; under 15 they keep their content."
+unfoldable pub keptUnder15 : List ℕ → MapBuffers → List ℕ → MapBuffers
+keptUnder15 t lent frame = cond (ltb (length frame) frameLength) lent (mapBuffersLeft t lent)
 
 -- all that the whole case answers and alters
-pub record CasePromise (text counts marks frame : List ℕ) (answer : ℕ) (counts-after marks-after frame-after : List ℕ) : Type 0 where
-  pub answers : answer ≡ caseAnswer text (length counts) (length marks) (length frame)
-  pub frame-left : frame-after ≡ frameLeft text (length counts) (length marks) frame
-  pub counts-left :
-      counts-after ≡ keptUnder15 (length frame) (leftIn (readingRefusal text (length counts) (length marks)) (countsOf text) counts) counts
-  pub marks-left :
-      marks-after ≡ keptUnder15 (length frame) (leftIn (readingRefusal text (length counts) (length marks)) (marksOf text) marks) marks
+pub record CaseContract (text : List ℕ) (lent : MapBuffers) (frame : List ℕ) (answer : ℕ) (lent-after : MapBuffers) (frame-after : List ℕ) : Type 0 where
+  pub answers : answer ≡ caseAnswer text lent frame
+  pub map-left : lent-after ≡ keptUnder15 text lent frame
+  pub frame-left : frame-after ≡ frameLeft text lent frame

@@ -15,7 +15,7 @@ use Rattle.footprint.specs.declared.Footprint.{Footprint}
 use Rattle.footprint.specs.Map.{footprintOf}
 use Rattle.risk_class.specs.ClassTable.{usedRow}
 use Rattle.assessment.specs.Working.{given, Working, workingAt}
-use Rattle.case_text.specs.Text.{headOf, marksOf, countsOf}
+use Rattle.case_text.specs.Text.{MapBuffers, headOf, marksOf, countsOf}
 use Rattle.frame.specs.declared.FrameFields.{FrameFields}
 use Rattle.frame.specs.Layout.{frameLength}
 use Rattle.frame.specs.FrameLaw.{refusalIn, fieldsIn}
@@ -63,13 +63,13 @@ pub record FrameTells (t : List ℕ) (shown : FrameFields) : Type 0 where
   pub unflagged : shown .flag ≡ 0 → ClassesShown t (exactColumnIn t) shown
   pub flagged : shown .flag ≡ 1 → ClassesNotHigher t (exactColumnIn t) shown
 
--- for every text, every length of the lent map buffers and every frame buffer: where the case answers 0, the frame buffer's bytes tell this
+-- for every text, all lent map buffers and every frame buffer: where the case answers 0, the frame buffer's bytes tell this
 abbrev pub EndToEnd : Type 0
 EndToEnd =
-    (t : List ℕ) (counts marks : ℕ) (frame : List ℕ) → caseAnswer t counts marks (length frame) ≡ 0 →
-    (refusalIn (frameLeft t counts marks frame) ≡ 0) × FrameTells t (fieldsIn (frameLeft t counts marks frame))
+    (t : List ℕ) (lent : MapBuffers) (frame : List ℕ) → caseAnswer t lent frame ≡ 0 →
+    (refusalIn (frameLeft t lent frame) ≡ 0) × FrameTells t (fieldsIn (frameLeft t lent frame))
 
 -- and whatever it answers: a number that document 01 lists, which the first two digits of a frame buffer that is long enough show
-pub record AnswerShown (t : List ℕ) (counts marks : ℕ) (frame : List ℕ) : Type 0 where
-  pub listed : OneOf (caseAnswer t counts marks (length frame)) (0 ∷ caseRefusals)
-  pub shown : frameLength ≤ length frame → refusalIn (frameLeft t counts marks frame) ≡ caseAnswer t counts marks (length frame)
+pub record AnswerShown (t : List ℕ) (lent : MapBuffers) (frame : List ℕ) : Type 0 where
+  pub listed : OneOf (caseAnswer t lent frame) (0 ∷ caseRefusals)
+  pub shown : frameLength ≤ length frame → refusalIn (frameLeft t lent frame) ≡ caseAnswer t lent frame

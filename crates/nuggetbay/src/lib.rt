@@ -6,9 +6,9 @@ ghost use Rattle.footprint.specs.Map.{footprintOf};
 ghost use Rattle.risk_class.specs.ClassTable.{intrinsicClassOf};
 ghost use Rattle.risk_class.specs.Mitigation.{finalClassOf};
 ghost use Rattle.assessment.specs.Assessment.{assessmentOf};
-ghost use Rattle.case_text.specs.Text.{ReadingPromise};
+ghost use Rattle.case_text.specs.Text.{ReadingContract};
 ghost use Rattle.frame.specs.Frame.{writingRefusal, framed};
-ghost use Rattle.ground_risk_case.specs.Case.{CasePromise};
+ghost use Rattle.ground_risk_case.specs.Case.{CaseContract};
 use assessment::Assessment;
 use assessment::assess;
 use case_text::Reading;
@@ -86,7 +86,10 @@ pub extern "C" fn nb_assess(
 // Reads a case text into the lent buffers.
 #[no_mangle]
 pub extern "C" fn nb_read_case(text: &[u8], counts: &mut [u32], marks: &mut [u64]) -> Reading
-    ensures { λ r. ⌜ ReadingPromise (now (text .entry)) (now (counts .entry)) (now (marks .entry)) r (now (counts .exit)) (now (marks .exit)) ⌝ }
+    ensures { λ r. ⌜
+        ReadingContract (now (text .entry)) (record { counts = now (counts .entry); marks = now (marks .entry) }) r
+        (record { counts = now (counts .exit); marks = now (marks .exit) })
+        ⌝ }
 {
     read_case(text, counts, marks)
 }
@@ -108,7 +111,10 @@ pub extern "C" fn nb_case(
     marks: &mut [u64],
     frame: &mut [u8],
 ) -> u8
-    ensures { λ r. ⌜ CasePromise (now (text .entry)) (now (counts .entry)) (now (marks .entry)) (now (frame .entry)) r (now (counts .exit)) (now (marks .exit)) (now (frame .exit)) ⌝ }
+    ensures { λ r. ⌜
+        CaseContract (now (text .entry)) (record { counts = now (counts .entry); marks = now (marks .entry) }) (now (frame .entry)) r
+        (record { counts = now (counts .exit); marks = now (marks .exit) }) (now (frame .exit))
+        ⌝ }
 {
     print_case(text, counts, marks, frame)
 }

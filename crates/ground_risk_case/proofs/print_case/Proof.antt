@@ -5,7 +5,7 @@ use Rattle.ground_risk_case.proofs.print_case.Statement.{statement}
 use Rattle.ground_risk_case.proofs.print_case.Tie as tie
 
 returns : tie.Need-returns
-returns c = refused-15 _ _ _ _ (c .if1 .taken)
+returns c = refused-15 _ _ _ (c .if1 .taken)
 
 read-case-requires : tie.Need-read-case-requires
 read-case-requires c κs = search needs
@@ -34,7 +34,7 @@ returns-2 c =
     in let fields = write .before .before
     in let then = fields .before .before
     in let read = then .before .before .before .before .before .before
-    in ended-by-reading _ _ _ _ (read .before .before .before .if1 .left) (read .read-case .ensures) (then .if2 .taken) (fields .before .refused-with .ensures) (fields .printed-fields .ensures) (write .write-frame .ensures .1)
+    in ended-by-reading _ _ _ (read .before .before .before .if1 .left) (read .read-case .ensures) (then .if2 .taken) (fields .before .refused-with .ensures) (fields .printed-fields .ensures) (write .write-frame .ensures .1)
 
 assess-requires : tie.Need-assess-requires
 assess-requires c κs = search needs
@@ -61,7 +61,7 @@ returns-3 c =
     in let assessed = fields .before
     in let otherwise = assessed .before .before .before .before
     in let read = otherwise .before .before .before .before .before .before
-    in not-ended _ _ _ _ (read .before .before .before .if1 .left) (read .read-case .ensures) (otherwise .if2 .left) (assessed .assess .ensures) (fields .printed-fields2 .ensures) (write .write-frame2 .ensures .1)
+    in not-ended _ _ _ (read .before .before .before .if1 .left) (read .read-case .ensures) (otherwise .if2 .left) (assessed .assess .ensures) (fields .printed-fields2 .ensures) (write .write-frame2 .ensures .1)
 
 pub print-case-spec : {M : Type 1} → statement M
 print-case-spec =
