@@ -1,9 +1,9 @@
 -- The promise of specs/Promises.antt holds.
 use mathlib.Core.Path.{_≡_, refl, sym, ap, _∙_}
-use mathlib.Core.List.{List, []}
+use mathlib.Core.List.{List}
 use Prim.Native.Nat.{ℕ}
 use Rattle.arithmetic.specs.Refusals.{AnswerPromise}
-use Rattle.arithmetic.proofs.RefusalLaws.{first-exactly-when, answer-promise, refused-before, way-out-after}
+use Rattle.arithmetic.proofs.RefusalLaws.{first-exactly-when, answer-promise, refused-by, accepted-by}
 use Rattle.case_text.specs.Text.{MapBuffers, mapBuffersOf, readingTests, readingRefusal, acceptedReading, refusedReading, readingOf, mapBuffersLeft, ReadingContract}
 use Rattle.case_text.specs.Promises.{ReadingPromise}
 use Rattle.case_text.specs.declared.Reading.{Reading}
@@ -23,6 +23,6 @@ module _ (text : List ℕ) (lent : MapBuffers) where
       let number : reading .refusal ≡ readingRefusal text lent = ap (λ (r : Reading). r .refusal) (c .answers) ∙ refusal-is in
       record {
         refusal = rw (c .answers) answer;
-        kept = λ some. c .left ∙ sym (refused-before (mapBuffersOf text) (λ _. lent) (readingTests text lent) [] refl number some);
-        filled = λ none. c .left ∙ sym (way-out-after (mapBuffersOf text) (λ _. lent) (readingTests text lent) [] refl number refl none 0);
+        kept = λ some. c .left ∙ sym (refused-by (mapBuffersOf text) (λ _. lent) (readingTests text lent) refl number some);
+        filled = λ none. c .left ∙ sym (accepted-by (mapBuffersOf text) (λ _. lent) (readingTests text lent) refl number none);
       }

@@ -5,7 +5,7 @@ use mathlib.Core.List.{List, [], _∷_}
 use lib.ListN.{replicate}
 use Rattle.hex.specs.Blocks.{Block, blocksLength, blockStart}
 -- "64 rows of 64 cells": the counts and the marks that are lent
-pub use Rattle.arithmetic.specs.MapSize.{mapRows, mapColumns, mapCells}
+pub use Rattle.map.specs.Size.{mapRows, mapColumns, mapCells}
 
 -- "Line 1 has 38 digits: dimension 8, mass 8, speed 8, cell area 8, controlled mark 2, mitigation word 4."
 abbrev pub dimensionWidth : ℕ

@@ -6,8 +6,9 @@ use mathlib.Core.List.{List, [], _∷_}
 use lib.Dec.{eqb}
 use lib.ListN.{length, getD}
 use Rattle.arithmetic.specs.Refusals.{Test, _when_, firstRefusal, answered}
+use Rattle.map.specs.Refusals.{wrongCountsLength, wrongMarksLength}
 use Rattle.hex.specs.Blocks.{areBlocks, valuesAt}
-use Rattle.case_text.specs.Layout.{line1, markLines, countLines, caseBlocks, marksStart, countsStart, textLength, mapRows, mapCells}
+use Rattle.case_text.specs.Layout.{line1, markLines, countLines, caseBlocks, marksStart, countsStart, textLength}
 use Rattle.case_text.specs.declared.CaseHead.{CaseHead}
 use Rattle.case_text.specs.declared.Reading.{Reading}
 
@@ -51,7 +52,7 @@ wrongTextLength t = not (eqb (length t) textLength)
 
 -- "5 a lent count or footprint buffer of the wrong length"
 abbrev pub wrongBufferLength : MapBuffers → Bool
-wrongBufferLength lent = not (eqb (length (lent .counts)) mapCells) || not (eqb (length (lent .marks)) mapRows)
+wrongBufferLength lent = wrongCountsLength (lent .counts) || wrongMarksLength (lent .marks)
 
 -- "14 a byte that isn't a digit or line end in its place"
 abbrev pub wrongByte : List ℕ → Bool

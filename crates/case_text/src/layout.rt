@@ -1,11 +1,11 @@
 // The layout of a case text: the width of each field in digits, the lines, and where each field and each block starts.
 
 // Rows and columns of the map, and its cells.
-pub(crate) const ROWS: usize = arithmetic::MAP_ROWS;
+pub(crate) const ROWS: usize = map::MAP_ROWS;
 
-pub(crate) const COLUMNS: usize = arithmetic::MAP_COLUMNS;
+pub(crate) const COLUMNS: usize = map::MAP_COLUMNS;
 
-pub(crate) const CELLS: usize = ROWS * COLUMNS;
+pub(crate) const CELLS: usize = map::MAP_CELLS;
 
 // Line 1: its fields, its digits, and with its line end.
 pub(crate) const DIMENSION: usize = 0;

@@ -4,7 +4,7 @@ use mathlib.Core.List.{List}
 use Prim.Native.Nat.{ℕ}
 use native.Mathlib.Omega.{arith}
 use Rattle.case_text.specs.Text.{MapBuffers, marksOf, countsOf, mapBuffersOf}
-use Rattle.case_text.proofs.ReadingLaws.{reading-refused, none-accepted, reading-accepted}
+use Rattle.case_text.proofs.ReadingLaws.{Accepted, reading-refused, none-accepted, reading-accepted}
 use borrow.Author.Needs.{needs}
 use Rattle.case_text.proofs.read_case.Statement.{statement}
 use Rattle.case_text.proofs.read_case.Tie as tie
@@ -12,6 +12,11 @@ use Rattle.case_text.proofs.read_case.Tie as tie
 -- the buffers are filled when each of them is
 filled : (t : List ℕ) {counts marks : List ℕ} → counts ≡ countsOf t → marks ≡ marksOf t → record { counts = counts; marks = marks } ≡ mapBuffersOf t
 filled t p q = rw (p, q)
+
+-- what is known where the tests passed
+accepted-in : (c : tie.Else1)
+    → let args = c .before .before .before .before .before .before .before .args in Accepted (args .text .now) (record { counts = args .counts .now; marks = args .marks .now })
+accepted-in c = none-accepted _ _ (c .before .reading-refusal .ensures) (omega (arith, c .if1 .left))
 
 reading-refusal-requires : tie.Need-reading-refusal-requires
 reading-refusal-requires c κs = search needs
@@ -31,22 +36,19 @@ returns c =
     reading-refused _ _ (refused .before .reading-refusal .ensures) (λ zero. omega (arith, refused .if1 .taken)) (c .no-head .ensures)
 
 fill-counts-requires : tie.Need-fill-counts-requires
-fill-counts-requires c κs =
-    let otherwise = c .before in
-    let accepted = none-accepted _ _ (otherwise .before .reading-refusal .ensures) (omega (arith, otherwise .if1 .left)) in
-    (accepted .text-long, accepted .buffers .counts)
+fill-counts-requires c κs = let accepted = accepted-in (c .before) in (accepted .text-long, accepted .buffers .counts)
 
 fill-marks-requires : tie.Need-fill-marks-requires
 fill-marks-requires c κs =
-    let otherwise = c .before .before .before .before .before in
-    let accepted = none-accepted _ _ (otherwise .before .reading-refusal .ensures) (omega (arith, otherwise .if1 .left)) in
+    let after-counts = c .before .before .before in
+    let accepted = accepted-in (after-counts .before .before) in
     (accepted .text-long, accepted .buffers .marks)
 
 head-of-requires : tie.Need-head-of-requires
 head-of-requires c κs =
     let after-marks = c .before .before in
-    let otherwise = after-marks .before .before .before .before .before .before in
-    none-accepted _ _ (otherwise .before .reading-refusal .ensures) (omega (arith, otherwise .if1 .left)) .text-long
+    let after-counts = after-marks .before .before .before .before in
+    accepted-in (after-counts .before .before) .text-long
 
 same-length-3 : tie.Need-same-length-3
 same-length-3 c = search needs
