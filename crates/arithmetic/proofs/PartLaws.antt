@@ -83,18 +83,6 @@ module _ (f : ℕ → List ℕ) (w : ℕ) (s : List ℕ) (a : ℕ) where
       last g =
           let same : i ≡ n = omega arith in rw same (part-right s a (w * n) w (joined f n) (f n) two (length-joined f w wide n))
 
--- a part that a rule gives
-pub tabulate-is : (f : ℕ → ℕ) (s : List ℕ) (a n : ℕ) → a + n ≤ length s → ((i : ℕ) → i < n → f i ≡ getD s (a + i) 0) → PartIs s a n (tabulate f n)
-unfolding tabulate
-tabulate-is f s a zero h p = record { is = refl; long = refl }
-tabulate-is f s a (suc n) h p =
-    let before = tabulate-is f s a n (omega arith) (λ i l. p i (omega arith)) in
-    record {
-      is =
-          take-suc (drop a s) n 0 (simp length-drop (omega arith)) ∙ rw (before .is, getD-drop a s n 0, p n (omega arith));
-      long = length-tabulate f (suc n);
-    }
-
 -- a part of a part
 take-within : (b j k : ℕ) (l : List ℕ) → b + j ≤ k → take j (drop b (take k l)) ≡ take j (drop b l)
 take-within zero j k l h = take-take j k l (omega arith)

@@ -121,6 +121,16 @@ one-of-more n (m ∷ ns) ks e h =
     let l = both (isOneOf m ks) (eachOneOf ns ks) e in
     ⊎-elim (λ (q : n ≡ m). one-of n ks (ap (λ (i : ℕ). isOneOf i ks) q ∙ l .0)) (λ (r : OneOf n ns). one-of-more n ns ks (l .1) r) h
 
+pub answered-one-of : (ts : List Test) (n : ℕ) (ks : List ℕ) → eachOneOf (numbers ts) ks ≡ true → OneOf n ks → OneOf (answered ts n (λ m. m)) ks
+answered-one-of [] n ks e h = h
+answered-one-of (t ∷ ts) n ks e h =
+    let l = both (isOneOf (t .number) ks) (eachOneOf (numbers ts) ks) e in
+    by-test (t .holds) (one-of (t .number) ks (l .0)) (answered-one-of ts n ks (l .1) h)
+  where
+    by-test : (b : Bool) → OneOf (t .number) ks → OneOf (answered ts n (λ m. m)) ks → OneOf (cond b (t .number) (answered ts n (λ m. m))) ks
+    by-test true first rest = first
+    by-test false first rest = rest
+
 -- a number of the list is at most the largest
 abbrev allAtMost : ℕ → List ℕ → Bool
 allAtMost most [] = true
@@ -184,6 +194,18 @@ module _ {A : Type 0} (accepted : A) (refused : ℕ → A) where
           if-accepted = λ z. sym whole ∙ simp (eq-eqb _ _ (sym e ∙ z));
           if-refused = λ z. sym whole ∙ simp (ne-eqb _ _ (λ k. z (e ∙ k)), e);
         }
+
+-- a number that comes after tests is 0 where no test holds and it is 0 itself
+pub none-refused : (ts : List Test) → distinct ts ≡ true → (n : ℕ) → answered ts n (λ m. m) ≡ 0 → FirstToHold ts 0 × (n ≡ 0)
+none-refused [] d n e = (refl, e)
+none-refused (t ∷ ts) d n e =
+    let h = both (fresh (t .number) ts) (distinct ts) d in
+    by-test (t .holds) (fresh-nonzero ts (t .number) (h .0)) (none-refused ts (h .1) n) e
+  where
+    by-test : (b : Bool) → (t .number ≡ 0 → ⊥) → (answered ts n (λ m. m) ≡ 0 → FirstToHold ts 0 × (n ≡ 0)) → cond b (t .number) (answered ts n (λ m. m)) ≡ 0
+        → cond (eqb (t .number) 0) (b ≡ true) ((b ≡ false) × FirstToHold ts 0) × (n ≡ 0)
+    by-test true nonzero rest k = absurd (nonzero k)
+    by-test false nonzero rest k = let r = rest k in (rw (ne-eqb (t .number) 0 nonzero) (refl, r .0), r .1)
 
 -- ---- tests that are judged as one, by a function that gives their number
 

@@ -1,4 +1,4 @@
--- Laws of tests: two numbers compared, tests joined by "or" and "and", a choice by a test, refusals tested in order, a test at each or at some index.
+-- Laws of tests: two numbers compared, tests joined by "or" and "and", a choice by a test, an answer that goes on, a test at each or at some index.
 use mathlib.Core.Path.{_≡_, refl, sym, ap, ap₂, _∙_}
 use mathlib.Core.Logic.{_⊎_, inl, inr, ⊎-elim}
 use mathlib.Core.Bool.{Bool, true, false, cond, _||_, _&&_, true≢false, false≢true, or-true, or-false, or-assoc}
@@ -35,11 +35,6 @@ cond-le false h l = l
 pub le-cond : (t : Bool) {a b k : ℕ} → k ≤ a → k ≤ b → k ≤ cond t a b
 le-cond true h l = h
 le-cond false h l = l
-
--- refusals tested in order, of which none is given: the first test failed, and the rest give none
-pub not-refused : (t : Bool) (n rest : ℕ) → cond t (suc n) rest ≡ 0 → (t ≡ false) × (rest ≡ 0)
-not-refused true n rest e = let h : ⊥ = omega arith in absurd h
-not-refused false n rest e = (refl, e)
 
 -- an answer that goes on where n is 0: if it isn't refused, n is 0
 pub went-on : {A : Type 0} (refusal : A → ℕ) (n : ℕ) (x y : A) → refusal y ≡ n → refusal (cond (eqb n 0) x y) ≡ 0 → n ≡ 0

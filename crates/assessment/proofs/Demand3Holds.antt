@@ -3,39 +3,38 @@ use mathlib.Core.Path.{_≡_, ap}
 use mathlib.Core.Logic.{_⊎_, ⊎-elim}
 use Prim.Native.Nat.{ℕ, _+_, _≤_}
 use native.Mathlib.Omega.{arith}
-use Rattle.sheet.specs.Sheet.{sheetOf}
-use Rattle.footprint.specs.Footprint.{footprintOf}
-use Rattle.exact_area.specs.ExactArea.{exactColumn}
 use Rattle.exact_area.specs.Accuracy.{ColumnIsAccurate}
 use Rattle.exact_area.proofs.AccuracyHolds.{sheet-is-accurate}
-use Rattle.assessment.specs.Working.{Working, workingAt}
-use Rattle.assessment.specs.Demand3.{SameWorking, Demand3Holds}
+use Rattle.assessment.specs.Question.{sheetAsked, exactColumnAsked, footprintAsked}
+use Rattle.assessment.specs.Working.{workingAt}
+use Rattle.assessment.specs.Demand3.{SameWorking, sheetWorking, exactWorking, Demand3Holds}
 use Rattle.assessment.proofs.LowerColumn.{lower-column}
 
 pub demand-3 : Demand3Holds
-demand-3 w m v accepted counts marks area controlled word =
+demand-3 q accepted =
     record {
-      accuracy = sheet-is-accurate w m v .area accepted;
+      accuracy = sheet-is-accurate (q .dimension) (q .mass) (q .speed) .area accepted;
       columns = columns;
       unflagged-working = λ e. same (columns .unflagged e);
-      flagged-working = λ e. lower-column (sheetOf w m v .sheet .column) (exactColumn w m v) (columns .exact-in-table .0) (not-above (columns .flagged e)) controlled word (footprintOf (record { counts = counts; cell-area = area }) marks);
+      flagged-working = λ e. lower-column column exact (columns .exact-in-table .0) (not-above (columns .flagged e)) (q .controlled) (q .word) (footprintAsked q);
     }
   where
-    columns : ColumnIsAccurate w m v (sheetOf w m v .sheet)
-    columns = sheet-is-accurate w m v .column accepted
+    columns : ColumnIsAccurate (q .dimension) (q .mass) (q .speed) (sheetAsked q .sheet)
+    columns = sheet-is-accurate (q .dimension) (q .mass) (q .speed) .column accepted
 
-    at : ℕ → Working
-    at column = workingAt column counts marks area controlled word
+    column : ℕ
+    column = sheetAsked q .sheet .column
 
-    same : exactColumn w m v ≡ sheetOf w m v .sheet .column → SameWorking (at (sheetOf w m v .sheet .column)) (at (exactColumn w m v))
+    exact : ℕ
+    exact = exactColumnAsked q
+
+    same : exact ≡ column → SameWorking (sheetWorking q) (exactWorking q)
     same e =
         record {
-          intrinsic = ap (λ (c : ℕ). at c .intrinsic) e;
-          final = ap (λ (c : ℕ). at c .final) e;
-          refusal = ap (λ (c : ℕ). at c .refusal) e;
+          intrinsic = ap (λ (c : ℕ). workingAt c q .intrinsic) e;
+          final = ap (λ (c : ℕ). workingAt c q .final) e;
+          refusal = ap (λ (c : ℕ). workingAt c q .refusal) e;
         }
 
-    not-above : (exactColumn w m v ≡ sheetOf w m v .sheet .column) ⊎ (exactColumn w m v + 1 ≡ sheetOf w m v .sheet .column) → exactColumn w m v ≤ sheetOf w m v .sheet .column
-    not-above h =
-        ⊎-elim (λ (e : exactColumn w m v ≡ sheetOf w m v .sheet .column). omega arith)
-        (λ (e : exactColumn w m v + 1 ≡ sheetOf w m v .sheet .column). omega arith) h
+    not-above : (exact ≡ column) ⊎ (exact + 1 ≡ column) → exact ≤ column
+    not-above h = ⊎-elim (λ (e : exact ≡ column). omega arith) (λ (e : exact + 1 ≡ column). omega arith) h

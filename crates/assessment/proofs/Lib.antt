@@ -1,5 +1,4 @@
 pub mod WaysOut
-pub mod GivenOrZero
-pub mod Parts
+pub mod PromisesHold
 pub mod LowerColumn
 pub mod Demand3Holds

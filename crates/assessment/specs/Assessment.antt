@@ -1,18 +1,15 @@
 -- An aircraft's assessment over a lent map: its sheet, its footprint and both classes, or the first refusal.
 use mathlib.Core.Bool.{cond}
-use mathlib.Core.List.{List, [], _∷_}
-use mathlib.Core.Path.{_≡_}
 use Prim.Native.Nat.{ℕ}
 use lib.Dec.{eqb}
 use lib.IntN.{pos}
-use Rattle.arithmetic.specs.Refusals.{OneOf}
 use Rattle.sheet.specs.declared.Sheet.{Sheet}
-use Rattle.sheet.specs.Sheet.{zeroSheet, sheetOf}
+use Rattle.sheet.specs.Sheet.{zeroSheet}
 use Rattle.footprint.specs.declared.Footprint.{Footprint}
-use Rattle.footprint.specs.Footprint.{refusedFootprint, footprintOf}
-use Rattle.risk_class.specs.ClassTable.{usedRow, intrinsicClassOf}
-use Rattle.risk_class.specs.Mitigation.{finalClassOf}
-use Rattle.assessment.specs.Working.{Given, given, notGiven, Working, wholeWorking, workingOn, workingAt}
+use Rattle.footprint.specs.Footprint.{refusedFootprint}
+use Rattle.risk_class.specs.ClassTable.{usedRow}
+use Rattle.assessment.specs.Question.{Question, sheetAsked, footprintAsked}
+use Rattle.assessment.specs.Working.{Given, given, notGiven, Working, workingAt}
 use Rattle.assessment.specs.declared.Assessment.{Assessment}
 
 -- after a refusal every number is zero
@@ -40,32 +37,9 @@ assessedBy sheet footprint controlled working =
     (refusedAssessment (working .refusal))
 
 -- "tested in the order: .. sheet, footprint, class, mitigation"
-unfoldable pub assessmentOf : ℕ → ℕ → ℕ → List ℕ → List ℕ → ℕ → ℕ → ℕ → Assessment
-assessmentOf w m v counts marks area controlled word =
-    let answer = sheetOf w m v
-    in let footprint = footprintOf (record { counts = counts; cell-area = area }) marks
+unfoldable pub assessmentOf : Question → Assessment
+assessmentOf q =
+    let answer = sheetAsked q
     in cond (eqb (answer .refusal) 0)
-    (assessedBy (answer .sheet) footprint controlled (workingOn (answer .sheet .column) footprint controlled word))
+    (assessedBy (answer .sheet) (footprintAsked q) (q .controlled) (workingAt (answer .sheet .column) q))
     (refusedAssessment (answer .refusal))
-
--- the refusals of sheet, footprint, class and mitigation
-abbrev pub assessmentRefusals : List ℕ
-assessmentRefusals = 1 ∷ 2 ∷ 3 ∷ 4 ∷ 5 ∷ 6 ∷ 7 ∷ 8 ∷ 9 ∷ 10 ∷ 11 ∷ 12 ∷ []
-
--- the refusal is 0 or one of these; where it isn't 0 every other number is zero
-pub record AssessmentIsGivenOrZero (a : Assessment) : Type 0 where
-  pub listed : OneOf (a .refusal) (0 ∷ assessmentRefusals)
-  pub zero : (a .refusal ≡ 0 → ⊥) → a ≡ refusedAssessment (a .refusal)
-
--- an assessment that isn't refused has every part given, and shows them
-pub record AssessmentParts (w m v : ℕ) (counts marks : List ℕ) (area controlled word : ℕ) (a : Assessment) : Type 0 where
-  pub sheet-given : sheetOf w m v .refusal ≡ 0
-  pub footprint-given : footprintOf (record { counts = counts; cell-area = area }) marks .refusal ≡ 0
-  pub intrinsic-given : intrinsicClassOf (sheetOf w m v .sheet .column) (footprintOf (record { counts = counts; cell-area = area }) marks .row) controlled .refusal ≡ 0
-  pub final-given : finalClassOf (sheetOf w m v .sheet .column) (a .intrinsic) word .refusal ≡ 0
-  pub sheet : a .sheet ≡ sheetOf w m v .sheet
-  pub footprint : a .footprint ≡ footprintOf (record { counts = counts; cell-area = area }) marks
-  pub row-used : a .«row_used» ≡ usedRow (footprintOf (record { counts = counts; cell-area = area }) marks .row) controlled
-  pub intrinsic : a .intrinsic ≡ intrinsicClassOf (sheetOf w m v .sheet .column) (footprintOf (record { counts = counts; cell-area = area }) marks .row) controlled .class
-  pub final-class : a .«final_class» ≡ finalClassOf (sheetOf w m v .sheet .column) (a .intrinsic) word .class
-  pub working : workingAt (sheetOf w m v .sheet .column) counts marks area controlled word ≡ wholeWorking (a .intrinsic) (a .«final_class»)

@@ -1,39 +1,44 @@
--- Demand 3: "For every accepted aircraft, whatever map, footprint, mark and word: the exact fraction lies between the low and the high area, at most
--- 7 cm² apart (2 up to 8 m); unflagged, the sheet's column is the exact one, and so are both classes and the refusal; flagged, the sheet's column is the
--- exact one or the next higher, and each class that it gives, the exact column gives too, the same or lower."
+-- Demand 3: "For every aircraft that the sheet accepts, whatever the map, footprint, controlled mark and mitigation word, all of this holds
+-- together, each figure, row, class and refusal being the one that document 01 defines."
 use mathlib.Core.Path.{_≡_}
-use mathlib.Core.List.{List}
 use Prim.Native.Nat.{ℕ, _≤_}
 use lib.IntN.{ℤ}
 use lib.Signed.{_≤ℤ_}
-use Rattle.sheet.specs.Sheet.{sheetOf}
-use Rattle.exact_area.specs.ExactArea.{exactColumn}
 use Rattle.exact_area.specs.Accuracy.{AreaIsAccurate, ColumnIsAccurate}
+use Rattle.assessment.specs.Question.{Question, sheetAsked, exactColumnAsked}
 use Rattle.assessment.specs.Working.{given, Working, workingAt}
 
--- "unflagged, the sheet's column is the exact one, and so are both classes and the refusal"
+-- "the two columns are equal, and so are the intrinsic class, the final class and the refusal, if any"
 pub record SameWorking (sheet exact : Working) : Type 0 where
   pub intrinsic : exact .intrinsic ≡ sheet .intrinsic
   pub final : exact .final ≡ sheet .final
   pub refusal : exact .refusal ≡ sheet .refusal
 
--- "each class that it gives, the exact column gives too, the same or lower"
+-- "where the sheet's column gives an intrinsic class, the exact column gives an intrinsic class too, the same or a lower one, and likewise
+-- for the final class"
 pub record SameOrLower (sheet exact : Working) : Type 0 where
   pub intrinsic : (class : ℕ) → sheet .intrinsic ≡ given class → (lower : ℕ) × (exact .intrinsic ≡ given lower) × (lower ≤ class)
   pub final : (class : ℤ) → sheet .final ≡ given class → (lower : ℤ) × (exact .final ≡ given lower) × (lower ≤ℤ class)
 
-pub record Demand3 (w m v : ℕ) (counts marks : List ℕ) (area controlled word : ℕ) : Type 0 where
-  pub accuracy : AreaIsAccurate w m v (sheetOf w m v .sheet)
-  pub columns : ColumnIsAccurate w m v (sheetOf w m v .sheet)
-  pub unflagged-working :
-      sheetOf w m v .sheet .flag ≡ 0 →
-      SameWorking (workingAt (sheetOf w m v .sheet .column) counts marks area controlled word) (workingAt (exactColumn w m v) counts marks area controlled word)
-  pub flagged-working :
-      sheetOf w m v .sheet .flag ≡ 1 →
-      SameOrLower (workingAt (sheetOf w m v .sheet .column) counts marks area controlled word) (workingAt (exactColumn w m v) counts marks area controlled word)
+-- "The case is worked with the sheet's column and with the exact one, over that same map, footprint, mark and word."
+abbrev pub sheetWorking : Question → Working
+sheetWorking q = workingAt (sheetAsked q .sheet .column) q
+
+abbrev pub exactWorking : Question → Working
+exactWorking q = workingAt (exactColumnAsked q) q
+
+pub record Demand3 (q : Question) : Type 0 where
+  -- "The exact fraction lies from the low area to the high area, which differ by at most 7 square centimetres, and by at most 2 where the
+  -- aircraft's dimension is 8 metres or less."
+  pub accuracy : AreaIsAccurate (q .dimension) (q .mass) (q .speed) (sheetAsked q .sheet)
+  -- "When the sheet is unflagged, the two columns are equal"; "When it is flagged, the sheet's column is the exact one or the next higher"
+  pub columns : ColumnIsAccurate (q .dimension) (q .mass) (q .speed) (sheetAsked q .sheet)
+  -- "When the sheet is unflagged, the two columns are equal, and so are the intrinsic class, the final class and the refusal, if any."
+  pub unflagged-working : sheetAsked q .sheet .flag ≡ 0 → SameWorking (sheetWorking q) (exactWorking q)
+  -- "When it is flagged, .. where the sheet's column gives an intrinsic class, the exact column gives an intrinsic class too, the same or a
+  -- lower one, and likewise for the final class."
+  pub flagged-working : sheetAsked q .sheet .flag ≡ 1 → SameOrLower (sheetWorking q) (exactWorking q)
 
 -- no hypothesis beyond acceptance: lists of any numbers and lengths, any three numbers beside them
 abbrev pub Demand3Holds : Type 0
-Demand3Holds =
-    (w m v : ℕ) → sheetOf w m v .refusal ≡ 0 → (counts marks : List ℕ) (area controlled word : ℕ) →
-    Demand3 w m v counts marks area controlled word
+Demand3Holds = (q : Question) → sheetAsked q .refusal ≡ 0 → Demand3 q

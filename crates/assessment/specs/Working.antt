@@ -1,13 +1,12 @@
 -- A working of demand 3: "Each working takes the footprint's row, then the class table, then the mitigation word, with its own column at both."
 use mathlib.Core.Bool.{cond}
-use mathlib.Core.List.{List}
 use Prim.Native.Nat.{ℕ}
 use lib.Dec.{eqb}
 use lib.IntN.{ℤ}
 use Rattle.footprint.specs.declared.Footprint.{Footprint}
-use Rattle.footprint.specs.Footprint.{footprintOf}
 use Rattle.risk_class.specs.ClassTable.{intrinsicClassOf}
 use Rattle.risk_class.specs.Mitigation.{finalClassOf}
+use Rattle.assessment.specs.Question.{Question, footprintAsked}
 
 -- a class that is given, or not
 pub data Given (A : Type 0) : Type 0 where
@@ -46,7 +45,6 @@ workingOn column footprint controlled word =
     cond (eqb (footprint .refusal) 0) (afterFootprint column (footprint .row) controlled word)
     (endedBefore (footprint .refusal))
 
--- the working at a column over a map, a footprint, a controlled-ground mark and a mitigation word
-abbrev pub workingAt : ℕ → List ℕ → List ℕ → ℕ → ℕ → ℕ → Working
-workingAt column counts marks area controlled word =
-    workingOn column (footprintOf (record { counts = counts; cell-area = area }) marks) controlled word
+-- the working at a column over the map, footprint, controlled-ground mark and mitigation word of a question, whatever its aircraft
+abbrev pub workingAt : ℕ → Question → Working
+workingAt column q = workingOn column (footprintAsked q) (q .controlled) (q .word)

@@ -48,7 +48,15 @@ pub fn assess(
     controlled: u8,
     word: u16,
 ) -> Assessment
-    ensures { λ r. ⌜ r ≡ assessmentOf dimension mass speed (now (counts .entry)) (now (marks .entry)) «cell_area» controlled word ⌝ }
+    ensures { λ r. ⌜ r ≡ assessmentOf (record {
+      dimension = dimension;
+      mass = mass;
+      speed = speed;
+      map = record { counts = now (counts .entry); cell-area = «cell_area» };
+      marks = now (marks .entry);
+      controlled = controlled;
+      word = word;
+    }) ⌝ }
 {
     let answer = sheet_of(dimension, mass, speed);
     if answer.refusal != 0 {

@@ -1,4 +1,4 @@
+pub mod CountLaws
 pub mod ReadingLaws
-pub mod BlockLaws
-pub mod WrittenText
+pub mod PromisesHold
 pub mod TextLawHolds

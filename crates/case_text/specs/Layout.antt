@@ -1,10 +1,13 @@
--- The places of a case text: the width of each field in digits, where it starts, and the lines.
--- "Line 1 has 38 digits: dimension 8, mass 8, speed 8, cell area 8, controlled mark 2, mitigation word 4. Then 64 lines of
--- 16 digits, the footprint, and 64 lines of 512 digits, eight a count. The whole is 33,959 bytes."
-use Prim.Native.Nat.{ℕ, _+_, _*_}
+-- The layout of a case text: its blocks in their order, each so many lines of fields with their widths in digits. Places and lengths are
+-- sums over them.
+use Prim.Native.Nat.{ℕ}
+use mathlib.Core.List.{List, [], _∷_}
+use lib.ListN.{replicate}
+use Rattle.hex.specs.Blocks.{Block, blocksLength, blockStart}
 -- "64 rows of 64 cells": the counts and the marks that are lent
 pub use Rattle.map.specs.Size.{mapRows, mapColumns, mapCells}
 
+-- "Line 1 has 38 digits: dimension 8, mass 8, speed 8, cell area 8, controlled mark 2, mitigation word 4."
 abbrev pub dimensionWidth : ℕ
 dimensionWidth = 8
 
@@ -23,51 +26,32 @@ controlledWidth = 2
 abbrev pub wordWidth : ℕ
 wordWidth = 4
 
-abbrev pub dimensionStart : ℕ
-dimensionStart = 0
+abbrev pub line1 : Block
+line1 = record { lines = 1; widths = dimensionWidth ∷ massWidth ∷ speedWidth ∷ cellAreaWidth ∷ controlledWidth ∷ wordWidth ∷ [] }
 
-abbrev pub massStart : ℕ
-massStart = dimensionStart + dimensionWidth
-
-abbrev pub speedStart : ℕ
-speedStart = massStart + massWidth
-
-abbrev pub cellAreaStart : ℕ
-cellAreaStart = speedStart + speedWidth
-
-abbrev pub controlledStart : ℕ
-controlledStart = cellAreaStart + cellAreaWidth
-
-abbrev pub wordStart : ℕ
-wordStart = controlledStart + controlledWidth
-
--- the digits of line 1
-abbrev pub headDigits : ℕ
-headDigits = wordStart + wordWidth
-
--- a line of the footprint: its digits, and with its line end
+-- "Then 64 lines of 16 digits, the footprint, and 64 lines of 512 digits, eight a count."
 abbrev pub markWidth : ℕ
 markWidth = 16
 
-abbrev pub markLine : ℕ
-markLine = markWidth + 1
+abbrev pub markLines : Block
+markLines = record { lines = mapRows; widths = markWidth ∷ [] }
 
--- a line of counts: the digits of a count, of the line, and with its line end
 abbrev pub countWidth : ℕ
 countWidth = 8
 
-abbrev pub countDigits : ℕ
-countDigits = countWidth * mapColumns
+abbrev pub countLines : Block
+countLines = record { lines = mapRows; widths = replicate mapColumns countWidth }
 
-abbrev pub countLine : ℕ
-countLine = countDigits + 1
+-- the whole text, and where the footprint and the counts start
+abbrev pub caseBlocks : List Block
+caseBlocks = line1 ∷ markLines ∷ countLines ∷ []
 
--- where the footprint's lines start, where the counts' lines start, and how long the text is
 abbrev pub marksStart : ℕ
-marksStart = headDigits + 1
+marksStart = blockStart caseBlocks 1
 
 abbrev pub countsStart : ℕ
-countsStart = marksStart + markLine * mapRows
+countsStart = blockStart caseBlocks 2
 
+-- "The whole is 33,959 bytes."
 abbrev pub textLength : ℕ
-textLength = countsStart + countLine * mapRows
+textLength = blocksLength caseBlocks

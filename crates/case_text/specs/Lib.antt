@@ -1,3 +1,4 @@
 pub mod Layout
 pub mod Text
 pub mod TextLaw
+pub mod Promises

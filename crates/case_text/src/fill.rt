@@ -23,9 +23,10 @@ ghost use Prim.Native.Nat.{_+_, _*_, _≤_};
 ghost use lib.ListN.{length, getD};
 ghost use Rattle.arithmetic.specs.Lists.{tabulate};
 ghost use Rattle.hex.specs.Digits.{field};
+ghost use Rattle.hex.specs.Blocks.{lineDigits, fieldsAt};
 ghost use Rattle.hex.specs.Words.{wordAt, numberOfWords};
-ghost use Rattle.case_text.specs.Layout.{mapColumns, mapCells, mapRows, countDigits, textLength};
-ghost use Rattle.case_text.specs.Text.{headOf, marksOf, rowOf, countsOf};
+ghost use Rattle.case_text.specs.Layout.{countLines, textLength, mapRows, mapColumns, mapCells};
+ghost use Rattle.case_text.specs.Text.{headOf, marksOf, countsOf};
 
 // The digits of a word, and the words of a line of counts.
 const WORD_DIGITS: usize = 4;
@@ -83,7 +84,7 @@ pub(crate) fn fill_marks(text: &[u8], marks: &mut [u64])
 
 // Each four bytes of a line as one number: a copy.
 fn words_of(line: &[u8], words: &mut [u32])
-    requires { ⌜ (length (now line) ≡ countDigits) × (length (now words) ≡ 2 * mapColumns) ⌝ }
+    requires { ⌜ (length (now line) ≡ lineDigits countLines) × (length (now words) ≡ 2 * mapColumns) ⌝ }
     ensures { λ _. ⌜ now (words .exit) ≡ tabulate (λ i. wordAt (now (line .entry)) (4 * i)) (2 * mapColumns) ⌝ }
 {
     let mut i = 0;
@@ -107,8 +108,8 @@ fn fill_words(words: &[u32], row: &mut [u32])
 
 // The counts of one line.
 fn fill_row(line: &[u8], row: &mut [u32])
-    requires { ⌜ (length (now line) ≡ countDigits) × (length (now row) ≡ mapColumns) ⌝ }
-    ensures { λ _. ⌜ now (row .exit) ≡ rowOf (now (line .entry)) ⌝ }
+    requires { ⌜ (length (now line) ≡ lineDigits countLines) × (length (now row) ≡ mapColumns) ⌝ }
+    ensures { λ _. ⌜ now (row .exit) ≡ fieldsAt (countLines .widths) (now (line .entry)) 0 ⌝ }
 {
     let mut words = [0u32; WORDS];
     words_of(line, &mut words);

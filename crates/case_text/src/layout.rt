@@ -1,4 +1,13 @@
-// The places of a case text.
+// The layout of a case text: the width of each field in digits, the lines, and where each field and each block starts.
+
+// Rows and columns of the map, and its cells.
+pub(crate) const ROWS: usize = map::MAP_ROWS;
+
+pub(crate) const COLUMNS: usize = map::MAP_COLUMNS;
+
+pub(crate) const CELLS: usize = map::MAP_CELLS;
+
+// Line 1: its fields, its digits, and with its line end.
 pub(crate) const DIMENSION: usize = 0;
 
 pub(crate) const MASS: usize = DIMENSION + 8;
@@ -13,12 +22,7 @@ pub(crate) const WORD: usize = CONTROLLED + 2;
 
 pub(crate) const HEAD_DIGITS: usize = WORD + 4;
 
-// Rows and columns of the map, and its cells.
-pub(crate) const ROWS: usize = map::MAP_ROWS;
-
-pub(crate) const COLUMNS: usize = map::MAP_COLUMNS;
-
-pub(crate) const CELLS: usize = ROWS * COLUMNS;
+pub(crate) const HEAD_LINE: usize = HEAD_DIGITS + 1;
 
 // A line of the footprint: its digits, and with its line end.
 pub(crate) const MARK_DIGITS: usize = 16;
@@ -32,8 +36,10 @@ pub(crate) const COUNT_DIGITS: usize = COUNT_WIDTH * COLUMNS;
 
 pub(crate) const COUNT_LINE: usize = COUNT_DIGITS + 1;
 
-// Where the footprint's lines start, where the counts' lines start, and how long the text is.
-pub(crate) const MARKS: usize = HEAD_DIGITS + 1;
+// Where line 1 starts, the footprint's lines and the counts' lines, and how long the text is.
+pub(crate) const HEAD: usize = 0;
+
+pub(crate) const MARKS: usize = HEAD + HEAD_LINE;
 
 pub(crate) const COUNTS: usize = MARKS + MARK_LINE * ROWS;
 

@@ -8,7 +8,7 @@ use fill::fill_marks;
 use fill::head_of;
 use refusals::reading_refusal;
 ghost use mathlib.Core.Path.{_≡_};
-ghost use Rattle.case_text.specs.Text.{noHead, ReadingPromise};
+ghost use Rattle.case_text.specs.Text.{noHead, ReadingContract};
 
 // How long a text is, and how many counts and footprint rows it has.
 pub const TEXT_LENGTH: usize = layout::TEXT;
@@ -49,11 +49,14 @@ fn no_head() -> CaseHead
     }
 }
 
-// Reads a case text into the lent buffers. All bytes are tested before any is stored.
+// Reads a case text into the lent map buffers. All bytes are tested before any is stored.
 pub fn read_case(text: &[u8], counts: &mut [u32], marks: &mut [u64]) -> Reading
-    ensures { λ r. ⌜ ReadingPromise (now (text .entry)) (now (counts .entry)) (now (marks .entry)) r (now (counts .exit)) (now (marks .exit)) ⌝ }
+    ensures { λ r. ⌜
+        ReadingContract (now (text .entry)) (record { counts = now (counts .entry); marks = now (marks .entry) }) r
+        (record { counts = now (counts .exit); marks = now (marks .exit) })
+        ⌝ }
 {
-    let refusal = reading_refusal(text, counts.len(), marks.len());
+    let refusal = reading_refusal(text, counts, marks);
     if refusal != 0 {
         return Reading {
             refusal: refusal,

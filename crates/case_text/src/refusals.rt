@@ -1,47 +1,33 @@
-// The test of a case text, before anything is stored. No early exit: the loops are vectorised.
+// The tests of a case text, before anything is stored. No early exit from the bytes: the loops are vectorised.
 use crate::layout::CELLS;
 use crate::layout::COUNT_LINE;
 use crate::layout::COUNTS;
+use crate::layout::HEAD;
+use crate::layout::HEAD_LINE;
 use crate::layout::MARK_LINE;
 use crate::layout::MARKS;
 use crate::layout::ROWS;
 use crate::layout::TEXT;
-use hex::is_line;
+use hex::are_lines;
 ghost use mathlib.Core.Path.{_≡_};
-ghost use Prim.Native.Nat.{_*_};
-ghost use lib.ListN.{length};
-ghost use Rattle.case_text.specs.Layout.{textLength};
-ghost use Rattle.case_text.specs.Text.{areLines, isText, readingRefusal};
-
-fn are_lines(s: &[u8], width: usize, n: usize) -> bool
-    requires { ⌜ length (now s) ≡ n * width ⌝ }
-    ensures { λ r. ⌜ r ≡ areLines (now (s .entry)) width n ⌝ }
-{
-    let mut good = true;
-    let mut k = 0;
-    while k < n {
-        let at = k * width;
-        good = good & is_line(&s[at..at + width]);
-        k += 1;
-    }
-    good
-}
+ghost use Rattle.case_text.specs.Text.{isText, readingRefusal};
 
 fn is_text(text: &[u8]) -> bool
-    requires { ⌜ length (now text) ≡ textLength ⌝ }
     ensures { λ r. ⌜ r ≡ isText (now (text .entry)) ⌝ }
 {
-    is_line(&text[0..MARKS])
-        & are_lines(&text[MARKS..COUNTS], MARK_LINE, ROWS)
-        & are_lines(&text[COUNTS..TEXT], COUNT_LINE, ROWS)
+    are_lines(text, HEAD, HEAD_LINE, 1)
+        & are_lines(text, MARKS, MARK_LINE, ROWS)
+        & are_lines(text, COUNTS, COUNT_LINE, ROWS)
 }
 
-// The refusals in their order, for lent buffers of so many counts and marks.
-pub(crate) fn reading_refusal(text: &[u8], counts: usize, marks: usize) -> u8
-    ensures { λ r. ⌜ r ≡ readingRefusal (now (text .entry)) counts marks ⌝ }
+// The refusals in their order.
+pub(crate) fn reading_refusal(text: &[u8], counts: &[u32], marks: &[u64]) -> u8
+    ensures { λ r. ⌜
+        r ≡ readingRefusal (now (text .entry)) (record { counts = now (counts .entry); marks = now (marks .entry) })
+        ⌝ }
 {
     let wrong_length = text.len() != TEXT;
-    let wrong_buffers = (counts != CELLS) | (marks != ROWS);
+    let wrong_buffers = (counts.len() != CELLS) | (marks.len() != ROWS);
     if wrong_length {
         return 13;
     }

@@ -15,7 +15,7 @@ use Rattle.hex.proofs.DigitLaws.{length-digits}
 use Rattle.hex.proofs.LineLaws.{line-at}
 use Rattle.hex.proofs.FieldLaws.{length-written, fields-read, fields-are}
 use Rattle.frame.specs.Layout.{refusalWidth, classWidth, frameDigits, frameLength, finalStart}
-use Rattle.frame.specs.Frame.{classByte, frameFields, frameLine, refusalFields, refusalLine, printed, framed}
+use Rattle.frame.specs.Frame.{classByte, frameFields, frameLine, refusalFields, refusalLine, printed, withLine, framed}
 use Rattle.frame.specs.FrameLaw.{classOf, refusalIn, fieldsIn, ClassFits, FrameFits, Shows, FrameLaw}
 use Rattle.frame.specs.WorkedLines.{WorkedLines}
 use Rattle.frame.specs.declared.FrameFields.{FrameFields}
@@ -57,7 +57,7 @@ printed-short n f = chosen (eqb n 0)
 
 -- a buffer that is long enough
 framed-long : (n : ℕ) (f : FrameFields) (b : List ℕ) → frameLength ≤ length b → framed n f b ≡ printed n f ++ drop (length (printed n f)) b
-unfolding framed
+unfolding withLine
 framed-long n f b h = rw (le-ltb (length b) frameLength h)
 
 fields-shown : (f : FrameFields) (b : List ℕ) → frameLength ≤ length b → FrameFits f → Shows (framed 0 f b) f
@@ -96,7 +96,7 @@ frame-back t long line none =
 
 module _ (n : ℕ) (f : FrameFields) (b : List ℕ) where
   rest-kept : drop (length (printed n f)) (framed n f b) ≡ drop (length (printed n f)) b
-  unfolding framed
+  unfolding withLine
   rest-kept = chosen (ltb (length b) frameLength)
     where
       chosen : (t : Bool) → drop (length (printed n f)) (cond t b (printed n f ++ drop (length (printed n f)) b)) ≡ drop (length (printed n f)) b
@@ -104,7 +104,7 @@ module _ (n : ℕ) (f : FrameFields) (b : List ℕ) where
       chosen false = drop-at (printed n f) (drop (length (printed n f)) b) (length (printed n f)) refl
 
   length-kept : length (framed n f b) ≡ length b
-  unfolding framed
+  unfolding withLine
   length-kept = chosen (ltb (length b) frameLength) refl
     where
       chosen : (t : Bool) → ltb (length b) frameLength ≡ t → length (cond t b (printed n f ++ drop (length (printed n f)) b)) ≡ length b

@@ -1,1 +1,2 @@
 pub mod FrameLawHolds
+pub mod WaysOut

@@ -1,11 +1,13 @@
 -- The printed frame of document 01.
 use Prim.Native.Nat.{ℕ}
+use mathlib.Core.Path.{_≡_}
 use mathlib.Core.Bool.{cond}
 use mathlib.Core.List.{List, [], _∷_, _++_}
 use lib.Dec.{eqb, ltb}
 use lib.IntN.{ℤ, pos, negsuc}
 use lib.ListN.{length}
 use Rattle.arithmetic.specs.Lists.{stored}
+use Rattle.arithmetic.specs.Refusals.{Test, _when_, firstRefusal, answered}
 use Rattle.hex.specs.Digits.{written, lineEnd}
 use Rattle.frame.specs.Layout.{refusalWidth, areaWidth, columnWidth, flagWidth, rowWidth, placeWidth, peopleWidth, classWidth, frameLength}
 use Rattle.frame.specs.declared.FrameFields.{FrameFields}
@@ -37,10 +39,19 @@ refusalLine n = written (refusalFields n) ++ lineEnd
 unfoldable pub printed : ℕ → FrameFields → List ℕ
 printed refusal f = cond (eqb refusal 0) (frameLine f) (refusalLine refusal)
 
--- "15 a buffer shorter than 41 bytes, for refused cases too; nothing written"; 0 where it is long enough
-unfoldable pub writingRefusal : ℕ → ℕ
-writingRefusal length = cond (ltb length frameLength) 15 0
+-- "15 a buffer shorter than 41 bytes, for refused cases too"
+abbrev pub writingTests : List ℕ → List Test
+writingTests buffer = 15 when ltb (length buffer) frameLength ∷ []
 
--- the buffer with what is printed at its start; "bytes after the last one written keep their content"
-unfoldable pub framed : ℕ → FrameFields → List ℕ → List ℕ
-framed refusal f buffer = cond (ltb (length buffer) frameLength) buffer (stored 0 (printed refusal f) buffer)
+-- the buffer with a line at its start; "nothing written" where it is refused; "bytes after the last one written keep their content"
+unfoldable pub withLine : List ℕ → List ℕ → List ℕ
+withLine line buffer = answered (writingTests buffer) (stored 0 line buffer) (λ _. buffer)
+
+-- the buffer after a case with this refusal number, 0 where there is none
+abbrev pub framed : ℕ → FrameFields → List ℕ → List ℕ
+framed refusal f buffer = withLine (printed refusal f) buffer
+
+-- all that the writing of a line answers and alters
+pub record WritingContract (line buffer : List ℕ) (answer : ℕ) (after : List ℕ) : Type 0 where
+  pub answers : answer ≡ firstRefusal (writingTests buffer)
+  pub left : after ≡ withLine line buffer

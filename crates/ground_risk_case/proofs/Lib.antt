@@ -1,4 +1,3 @@
 pub mod WaysOut
 pub mod EndToEndHolds
-pub mod AnswerShows
 pub mod PointsHold

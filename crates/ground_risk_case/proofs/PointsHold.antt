@@ -1,5 +1,5 @@
 -- P1 to P16.
-use mathlib.Core.Path.{_≡_, sym, ap, _∙_, subst}
+use mathlib.Core.Path.{_≡_, refl, sym, ap, _∙_, subst}
 use mathlib.Core.Bool.{Bool, cond}
 use mathlib.Core.Logic.{⊎-elim}
 use mathlib.Core.List.{List, [], _∷_, _++_, map}
@@ -14,6 +14,7 @@ use Rattle.arithmetic.specs.Tests.{anyBelow}
 use Rattle.arithmetic.specs.Lists.{stored}
 use Rattle.arithmetic.proofs.EachLaws.{each-append, each-map}
 use Rattle.arithmetic.proofs.ListLaws.{length-tabulate, tabulate-at}
+use Rattle.arithmetic.proofs.RefusalLaws.{accepted-by}
 use Rattle.arithmetic.proofs.TestLaws.{lt-or-le, cond-le}
 use Rattle.sheet.specs.Lines.{runOf, savingOf, totalOf, areaOf}
 use Rattle.sheet.specs.Column.{columnBy, columnOf, flagOf}
@@ -33,16 +34,17 @@ use Rattle.assessment.specs.Working.{afterClass, afterFootprint, workingOn}
 use Rattle.assessment.specs.Assessment.{assessedBy, assessmentOf}
 use Rattle.case_text.specs.declared.CaseHead.{CaseHead}
 use Rattle.case_text.specs.Layout.{mapRows, mapCells}
-use Rattle.case_text.specs.Text.{countsOf, marksOf, readingRefusal}
-use Rattle.case_text.specs.TextLaw.{CaseFields, textOf, fieldsOf as fieldsIn, Fits}
+use Rattle.case_text.specs.Text.{MapBuffers, mapBuffersOf, readingTests, readingRefusal}
+use Rattle.case_text.specs.TextLaw.{CaseFields, textOf, fieldsOf as fieldsIn, Fits, RightLengths}
+use Rattle.case_text.proofs.ReadingLaws.{accepted-none}
 use Rattle.case_text.proofs.TextLawHolds.{text-law}
 use Rattle.frame.specs.declared.FrameFields.{FrameFields}
 use Rattle.frame.specs.Layout.{frameLength}
-use Rattle.frame.specs.Frame.{printed, framed}
+use Rattle.frame.specs.Frame.{printed, withLine}
 use Rattle.frame.specs.WorkedLines.{p16Fields, p16Line}
 use Rattle.frame.proofs.FrameLawHolds.{worked-lines}
-use Rattle.ground_risk_case.specs.Case.{printedFields, assessmentIn, outcomeOf, caseAnswer, frameLeft}
-use Rattle.ground_risk_case.specs.Points.{p16Head, P16Text, onlyFirst, p16Case, P16Holds, aircraft, cell, mitigation, wholeCase, WorkedPointHolds, WorkedPointsHold}
+use Rattle.ground_risk_case.specs.Case.{printedFields, questionOf, questionIn, CaseBuffers, caseRefusal, caseAnswer, buffersLeft}
+use Rattle.ground_risk_case.specs.Points.{p16Head, P16Text, onlyFirst, p16Case, LongEnough, P16Holds, aircraft, cell, mitigation, wholeCase, WorkedPointHolds, WorkedPointsHold}
 
 -- what is shown of an assessment: the refusal, and the printed fields
 record Told : Type 0 where
@@ -52,32 +54,35 @@ record Told : Type 0 where
 abbrev told : Assessment → Told
 told a = record { refusal = a .refusal; fields = printedFields a }
 
-p16-assessment : (counts marks : List ℕ) → P16Map counts marks →
-    told (assessmentOf (p16Head .dimension) (p16Head .mass) (p16Head .speed) counts marks (p16Head .«cell_area») (p16Head .controlled) (p16Head .word)) ≡ record { refusal = 0; fields = p16Fields }
+p16-assessment : (filled : MapBuffers) → P16Map (filled .counts) (filled .marks)
+    → told (assessmentOf (questionOf p16Head filled)) ≡ record { refusal = 0; fields = p16Fields }
 unfolding assessmentOf assessedBy workingOn afterFootprint afterClass sheetOf linesOf withLines flagOf columnOf columnBy areaOf totalOf savingOf runOf divUp intrinsicClassOf classAt finalClassOf creditAt anyBelow
-p16-assessment counts marks h = rw (p16-footprint counts marks h)
-
-p16-told : (t : List ℕ) → P16Text t → told (outcomeOf t mapCells mapRows) ≡ record { refusal = 0; fields = p16Fields }
-unfolding outcomeOf assessmentIn
-p16-told t h =
-    simp (eq-eqb _ _ (h .read))
-    (ap (λ (x : CaseHead). told (assessmentOf (x .dimension) (x .mass) (x .speed) (countsOf t) (marksOf t) (x .«cell_area») (x .controlled) (x .word))) (h .head)
-    ∙ p16-assessment (countsOf t) (marksOf t) (h .map))
+p16-assessment filled h = rw (p16-footprint (filled .counts) (filled .marks) h)
 
 p16-line : printed 0 p16Fields ≡ p16Line
 unfolding printed
 p16-line = worked-lines .p16
 
-p16-printed : (t : List ℕ) → P16Text t → printed (outcomeOf t mapCells mapRows .refusal) (printedFields (outcomeOf t mapCells mapRows)) ≡ p16Line
-p16-printed t h = ap (λ (x : Told). printed (x .refusal) (x .fields)) (p16-told t h) ∙ p16-line
+p16-told : (t : List ℕ) → P16Text t → told (assessmentOf (questionIn t)) ≡ record { refusal = 0; fields = p16Fields }
+unfolding questionIn
+p16-told t h = ap (λ (x : CaseHead). told (assessmentOf (questionOf x (mapBuffersOf t)))) (h .head) ∙ p16-assessment (mapBuffersOf t) (h .map)
 
-p16-answer : (t : List ℕ) → P16Text t → (frame : List ℕ) → frameLength ≤ length frame → caseAnswer t mapCells mapRows (length frame) ≡ 0
-unfolding caseAnswer
-p16-answer t h frame long = simp (le-ltb (length frame) frameLength long) (ap (λ (x : Told). x .refusal) (p16-told t h))
+module _ (t : List ℕ) (h : P16Text t) (lent : CaseBuffers) (enough : LongEnough lent) where
+  p16-refusal : caseRefusal t lent ≡ 0
+  unfolding caseRefusal readingRefusal
+  p16-refusal =
+      sym (accepted-by (assessmentOf (questionIn t) .refusal) (λ n. n) (readingTests t (lent .map)) refl refl (h .read (lent .map) (enough .map)))
+      ∙ ap (λ (x : Told). x .refusal) (p16-told t h)
 
-p16-bytes : (t : List ℕ) → P16Text t → (frame : List ℕ) → frameLength ≤ length frame → frameLeft t mapCells mapRows frame ≡ stored 0 p16Line frame
-unfolding frameLeft framed
-p16-bytes t h frame long = simp (le-ltb (length frame) frameLength long) (ap (λ (l : List ℕ). stored 0 l frame) (p16-printed t h))
+  p16-answer : caseAnswer t lent ≡ 0
+  unfolding caseAnswer
+  p16-answer = simp (le-ltb (length (lent .frame)) frameLength (enough .frame)) p16-refusal
+
+  p16-bytes : buffersLeft t lent .frame ≡ stored 0 p16Line (lent .frame)
+  unfolding buffersLeft withLine
+  p16-bytes =
+      simp (le-ltb (length (lent .frame)) frameLength (enough .frame), p16-refusal)
+      (ap (λ (x : Told). stored 0 (printed 0 (x .fields)) (lent .frame)) (p16-told t h) ∙ ap (λ (l : List ℕ). stored 0 l (lent .frame)) p16-line)
 
 -- ---- the text of P16's fields
 
@@ -119,9 +124,9 @@ p16-map =
       other-marks = only-others (2 ^ 63) mapRows;
     }
 
-p16-read : readingRefusal (textOf p16Case) mapCells mapRows ≡ 0
-unfolding readingRefusal
-p16-read = simp (text-law .text-long p16Case, text-law .text-accepted p16Case)
+p16-read : (lent : MapBuffers) → RightLengths lent → readingRefusal (textOf p16Case) lent ≡ 0
+p16-read lent right =
+    accepted-none (textOf p16Case) lent (record { text-long = text-law .text-long p16Case; buffers = right; text = text-law .text-accepted p16Case })
 
 p16-text : P16Text (textOf p16Case)
 p16-text =
@@ -129,7 +134,7 @@ p16-text =
     in record {
       read = p16-read;
       head = ap (λ (f : CaseFields). f .head) is;
-      map = subst (λ (f : CaseFields). P16Map (f .counts) (f .marks)) (sym is) p16-map;
+      map = subst (λ (f : CaseFields). P16Map (f .buffers .counts) (f .buffers .marks)) (sym is) p16-map;
     }
 
 p16-holds : P16Holds

@@ -1,20 +1,15 @@
 -- The whole case: "tested in the order: 15, reading, sheet, footprint, class, mitigation; the first refusal from reading on is printed."
 use mathlib.Core.Path.{_≡_}
-use mathlib.Core.Bool.{cond}
-use mathlib.Core.List.{List, _∷_}
+use mathlib.Core.List.{List}
 use Prim.Native.Nat.{ℕ}
-use lib.Dec.{ltb, eqb}
-use lib.ListN.{length}
+use Rattle.arithmetic.specs.Refusals.{answered}
 use Rattle.assessment.specs.declared.Assessment.{Assessment}
-use Rattle.assessment.specs.Assessment.{refusedAssessment, assessmentRefusals, assessmentOf}
-use Rattle.case_text.specs.Text.{headOf, marksOf, countsOf, readingRefusal, leftIn}
+use Rattle.assessment.specs.Question.{Question}
+use Rattle.assessment.specs.Assessment.{assessmentOf}
+use Rattle.case_text.specs.declared.CaseHead.{CaseHead}
+use Rattle.case_text.specs.Text.{MapBuffers, headOf, mapBuffersOf, readingTests, mapBuffersLeft}
 use Rattle.frame.specs.declared.FrameFields.{FrameFields}
-use Rattle.frame.specs.Layout.{frameLength}
-use Rattle.frame.specs.Frame.{framed}
-
--- the refusals of a case, in the order tested: 15, those of the reading, those of the assessment
-abbrev pub caseRefusals : List ℕ
-caseRefusals = 15 ∷ 13 ∷ 5 ∷ 14 ∷ assessmentRefusals
+use Rattle.frame.specs.Frame.{writingTests, framed}
 
 -- the printed fields of an assessment
 abbrev pub printedFields : Assessment → FrameFields
@@ -31,34 +26,47 @@ printedFields a =
       «final_class» = a .«final_class»;
     }
 
--- the assessment of the fields that stand in a text
-unfoldable pub assessmentIn : List ℕ → Assessment
-assessmentIn t =
-    let head = headOf t
-    in assessmentOf (head .dimension) (head .mass) (head .speed) (countsOf t) (marksOf t) (head .«cell_area») (head .controlled) (head .word)
+-- what line 1 and the filled map buffers ask
+abbrev pub questionOf : CaseHead → MapBuffers → Question
+questionOf head filled =
+    record {
+      dimension = head .dimension;
+      mass = head .mass;
+      speed = head .speed;
+      map = record { counts = filled .counts; cell-area = head .«cell_area» };
+      marks = filled .marks;
+      controlled = head .controlled;
+      word = head .word;
+    }
 
--- from the reading on, for lent buffers of so many counts and marks: the reading's refusal, or the assessment of the text
-unfoldable pub outcomeOf : List ℕ → ℕ → ℕ → Assessment
-outcomeOf t counts marks =
-    cond (eqb (readingRefusal t counts marks) 0) (assessmentIn t) (refusedAssessment (readingRefusal t counts marks))
+-- what the fields ask that stand in a text
+unfoldable pub questionIn : List ℕ → Question
+questionIn t = questionOf (headOf t) (mapBuffersOf t)
+
+-- the buffers that a case is lent
+pub record CaseBuffers : Type 0 where
+  pub map : MapBuffers
+  pub frame : List ℕ
+
+-- "the first refusal from reading on": the reading's, otherwise that of the assessment of what the text asks; 0 when there is none
+unfoldable pub caseRefusal : List ℕ → CaseBuffers → ℕ
+caseRefusal t lent = answered (readingTests t (lent .map)) (assessmentOf (questionIn t) .refusal) (λ n. n)
 
 -- "Its answer is the refusal number alone, 0 when there is none."
-unfoldable pub caseAnswer : List ℕ → ℕ → ℕ → ℕ → ℕ
-caseAnswer t counts marks frame = cond (ltb frame frameLength) 15 (outcomeOf t counts marks .refusal)
-
--- the frame buffer at exit
-unfoldable pub frameLeft : List ℕ → ℕ → ℕ → List ℕ → List ℕ
-frameLeft t counts marks frame = framed (outcomeOf t counts marks .refusal) (printedFields (outcomeOf t counts marks)) frame
+unfoldable pub caseAnswer : List ℕ → CaseBuffers → ℕ
+caseAnswer t lent = answered (writingTests (lent .frame)) (caseRefusal t lent) (λ n. n)
 
 -- "A reading that succeeds fills both buffers, also when a later refusal is printed; under 15 they keep their content."
-unfoldable pub keptUnder15 : ℕ → List ℕ → List ℕ → List ℕ
-keptUnder15 frame left buffer = cond (ltb frame frameLength) buffer left
+unfoldable pub buffersLeft : List ℕ → CaseBuffers → CaseBuffers
+buffersLeft t lent =
+    answered (writingTests (lent .frame))
+    (record {
+      map = mapBuffersLeft t (lent .map);
+      frame = framed (caseRefusal t lent) (printedFields (assessmentOf (questionIn t))) (lent .frame);
+    })
+    (λ _. lent)
 
 -- all that the whole case answers and alters
-pub record CasePromise (text counts marks frame : List ℕ) (answer : ℕ) (counts-after marks-after frame-after : List ℕ) : Type 0 where
-  pub answers : answer ≡ caseAnswer text (length counts) (length marks) (length frame)
-  pub frame-left : frame-after ≡ frameLeft text (length counts) (length marks) frame
-  pub counts-left :
-      counts-after ≡ keptUnder15 (length frame) (leftIn (readingRefusal text (length counts) (length marks)) (countsOf text) counts) counts
-  pub marks-left :
-      marks-after ≡ keptUnder15 (length frame) (leftIn (readingRefusal text (length counts) (length marks)) (marksOf text) marks) marks
+pub record CaseContract (text : List ℕ) (lent : CaseBuffers) (answer : ℕ) (after : CaseBuffers) : Type 0 where
+  pub answers : answer ≡ caseAnswer text lent
+  pub left : after ≡ buffersLeft text lent

@@ -11,13 +11,14 @@ use Rattle.sheet.specs.Points.{SheetPoint, SheetPointHolds, sheetPoints}
 use Rattle.map.specs.Points.{RowPoint, RowPointHolds, rowPoints}
 use Rattle.footprint.specs.Points.{P16Map}
 use Rattle.risk_class.specs.Points.{FinalPoint, FinalPointHolds, finalPoints}
+use Rattle.assessment.specs.Assessment.{assessmentOf}
 use Rattle.case_text.specs.declared.CaseHead.{CaseHead}
 use Rattle.case_text.specs.Layout.{mapRows, mapCells}
-use Rattle.case_text.specs.Text.{headOf, marksOf, countsOf, readingRefusal}
-use Rattle.case_text.specs.TextLaw.{CaseFields, textOf}
+use Rattle.case_text.specs.Text.{MapBuffers, headOf, marksOf, countsOf, readingRefusal}
+use Rattle.case_text.specs.TextLaw.{CaseFields, textOf, RightLengths}
 use Rattle.frame.specs.Layout.{frameLength}
 use Rattle.frame.specs.WorkedLines.{p16Fields, p16Line}
-use Rattle.ground_risk_case.specs.Case.{printedFields, outcomeOf, caseAnswer, frameLeft}
+use Rattle.ground_risk_case.specs.Case.{printedFields, questionIn, CaseBuffers, caseAnswer, buffersLeft}
 
 -- P16's first line, `000003e800002710000009c400002710001000`
 abbrev pub p16Head : CaseHead
@@ -26,7 +27,7 @@ p16Head =
 
 -- a text with that first line, the first footprint line 8000000000000000, the first count 8, "all else zero"
 pub record P16Text (t : List ℕ) : Type 0 where
-  pub read : readingRefusal t mapCells mapRows ≡ 0
+  pub read : (lent : MapBuffers) → RightLengths lent → readingRefusal t lent ≡ 0
   pub head : headOf t ≡ p16Head
   pub map : P16Map (countsOf t) (marksOf t)
 
@@ -35,14 +36,19 @@ abbrev pub onlyFirst : ℕ → ℕ → List ℕ
 onlyFirst x n = tabulate (λ i. cond (eqb i 0) x 0) n
 
 abbrev pub p16Case : CaseFields
-p16Case = record { head = p16Head; marks = onlyFirst (2 ^ 63) mapRows; counts = onlyFirst 8 mapCells }
+p16Case = record { head = p16Head; buffers = record { counts = onlyFirst 8 mapCells; marks = onlyFirst (2 ^ 63) mapRows } }
+
+-- lent buffers as long as they have to be
+pub record LongEnough (lent : CaseBuffers) : Type 0 where
+  pub map : RightLengths (lent .map)
+  pub frame : frameLength ≤ length (lent .frame)
 
 -- there is such a text; of each one the printed fields are those of P16's output, the answer is 0, and its line stands in the frame buffer
 pub record P16Holds : Type 0 where
   pub text : P16Text (textOf p16Case)
-  pub fields : (t : List ℕ) → P16Text t → printedFields (outcomeOf t mapCells mapRows) ≡ p16Fields
-  pub answer : (t : List ℕ) → P16Text t → (frame : List ℕ) → frameLength ≤ length frame → caseAnswer t mapCells mapRows (length frame) ≡ 0
-  pub bytes : (t : List ℕ) → P16Text t → (frame : List ℕ) → frameLength ≤ length frame → frameLeft t mapCells mapRows frame ≡ stored 0 p16Line frame
+  pub fields : (t : List ℕ) → P16Text t → printedFields (assessmentOf (questionIn t)) ≡ p16Fields
+  pub answer : (t : List ℕ) → P16Text t → (lent : CaseBuffers) → LongEnough lent → caseAnswer t lent ≡ 0
+  pub bytes : (t : List ℕ) → P16Text t → (lent : CaseBuffers) → LongEnough lent → buffersLeft t lent .frame ≡ stored 0 p16Line (lent .frame)
 
 pub data WorkedPoint : Type 0 where
   aircraft : SheetPoint → WorkedPoint

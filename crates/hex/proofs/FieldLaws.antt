@@ -7,18 +7,13 @@ use lib.ListN.{length, take, drop, length-append}
 use borrow.Rule.Slice.PartMut.{putMid, midOf}
 use Rattle.arithmetic.specs.Lists.{stored}
 use Rattle.arithmetic.proofs.PartLaws.{PartIs, parts-joined, part-left, part-right, Filled, part-next, part-long, filled-from, filled-stored}
-use Rattle.hex.specs.Digits.{field, digits, written}
+use Rattle.hex.specs.Digits.{field, digits, written, Fit}
 use Rattle.hex.proofs.DigitLaws.{length-digits}
 use Rattle.hex.proofs.LineLaws.{AllDigits, none, digits-append, digits-digits, digits-within, field-read, field-is}
 
 abbrev pub width : List (ℕ × ℕ) → ℕ
 width [] = 0
 width (f ∷ fs) = f .0 + width fs
-
--- each value has no more digits than its field
-abbrev pub Fit : List (ℕ × ℕ) → Type 0
-Fit [] = Unit {0}
-Fit (f ∷ fs) = (f .1 < 16 ^ f .0) × Fit fs
 
 -- in s, from place a, these fields are read
 abbrev pub Read : List ℕ → ℕ → List (ℕ × ℕ) → Type 0

@@ -8,7 +8,7 @@ use lib.Dec.{eqb, leb}
 use lib.ListN.{length, getD, take, drop, length-append, length-take, length-drop, List·getD-append}
 use lib.Seq.{take-all, getD-at, getD-take, getD-drop, drop-cons}
 use borrow.Author.Tests.{eqb-true, le-leb, lt-leb, leb-true, leb-false}
-use Rattle.arithmetic.specs.Lists.{every, joined}
+use Rattle.arithmetic.specs.Lists.{every}
 use Rattle.arithmetic.proofs.TestLaws.{both, all-below}
 use Rattle.arithmetic.proofs.ListLaws.{every-at, every-all}
 use Rattle.arithmetic.proofs.PartLaws.{PartIs, within}
@@ -49,11 +49,6 @@ unfolding digits
 digits-digits zero n = none
 digits-digits (suc k) n =
     digits-append (digits k (n / 16)) (digitOf (n % 16) ∷ []) (digits-digits k (n / 16)) (more (digit-is (n % 16) (omega arith)) none)
-
-pub digits-joined : (f : ℕ → List ℕ) → ((i : ℕ) → AllDigits (f i)) → (n : ℕ) → AllDigits (joined f n)
-unfolding joined
-digits-joined f p zero = none
-digits-joined f p (suc n) = digits-append (joined f n) (f n) (digits-joined f p n) (p n)
 
 -- a part of digits
 pub digits-within : (s : List ℕ) (a k b j : ℕ) → b + j ≤ k → AllDigits (take k (drop a s)) → AllDigits (take j (drop (a + b) s))

@@ -1,5 +1,5 @@
 -- House text of document 01: digits, numbers in digits, fields and lines.
-use Prim.Native.Nat.{ℕ, zero, suc, _+_, _-_, _*_, _/_, _%_}
+use Prim.Native.Nat.{ℕ, zero, suc, _+_, _-_, _*_, _/_, _%_, _^_, _<_}
 use mathlib.Core.Bool.{Bool, _&&_, _||_, cond}
 use mathlib.Core.List.{List, [], _∷_, _++_}
 use lib.Dec.{ltb, leb, eqb}
@@ -37,6 +37,11 @@ field s a w = number w (part s a (a + w))
 abbrev pub written : List (ℕ × ℕ) → List ℕ
 written [] = []
 written (f ∷ fs) = digits (f .0) (f .1) ++ written fs
+
+-- no value has more digits than its field
+abbrev pub Fit : List (ℕ × ℕ) → Type 0
+Fit [] = Unit {0}
+Fit (f ∷ fs) = (f .1 < 16 ^ f .0) × Fit fs
 
 -- "one frame a line, each ended by byte 10 (decimal)"
 abbrev pub lineEndByte : ℕ

@@ -1,9 +1,11 @@
 // Hexadecimal digits of the house text: numbers read from lent parts, a number written into a lent part, and lines.
+mod block;
 mod line;
 mod numbers;
 mod words;
 mod writer;
 
+pub use block::are_lines;
 pub use line::is_line;
 pub use numbers::number_of_four;
 pub use numbers::number_of_two;

@@ -1,14 +1,13 @@
 // The boundary: every operation that a console written in C or Rust may call. Each one answers what the operation that it passes on to answers.
 ghost use mathlib.Core.Path.{_≡_};
-ghost use lib.ListN.{length};
 ghost use Rattle.sheet.specs.Sheet.{sheetOf};
 ghost use Rattle.footprint.specs.Footprint.{footprintOf};
 ghost use Rattle.risk_class.specs.ClassTable.{intrinsicClassOf};
 ghost use Rattle.risk_class.specs.Mitigation.{finalClassOf};
 ghost use Rattle.assessment.specs.Assessment.{assessmentOf};
-ghost use Rattle.case_text.specs.Text.{ReadingPromise};
-ghost use Rattle.frame.specs.Frame.{writingRefusal, framed};
-ghost use Rattle.ground_risk_case.specs.Case.{CasePromise};
+ghost use Rattle.case_text.specs.Text.{ReadingContract};
+ghost use Rattle.frame.specs.Frame.{printed, WritingContract};
+ghost use Rattle.ground_risk_case.specs.Case.{CaseContract};
 use assessment::Assessment;
 use assessment::assess;
 use case_text::Reading;
@@ -69,7 +68,15 @@ pub extern "C" fn nb_assess(
     controlled: u8,
     word: u16,
 ) -> Assessment
-    ensures { λ r. ⌜ r ≡ assessmentOf dimension mass speed (now (counts .entry)) (now (marks .entry)) «cell_area» controlled word ⌝ }
+    ensures { λ r. ⌜ r ≡ assessmentOf (record {
+      dimension = dimension;
+      mass = mass;
+      speed = speed;
+      map = record { counts = now (counts .entry); cell-area = «cell_area» };
+      marks = now (marks .entry);
+      controlled = controlled;
+      word = word;
+    }) ⌝ }
 {
     assess(
         dimension,
@@ -86,7 +93,10 @@ pub extern "C" fn nb_assess(
 // Reads a case text into the lent buffers.
 #[no_mangle]
 pub extern "C" fn nb_read_case(text: &[u8], counts: &mut [u32], marks: &mut [u64]) -> Reading
-    ensures { λ r. ⌜ ReadingPromise (now (text .entry)) (now (counts .entry)) (now (marks .entry)) r (now (counts .exit)) (now (marks .exit)) ⌝ }
+    ensures { λ r. ⌜
+        ReadingContract (now (text .entry)) (record { counts = now (counts .entry); marks = now (marks .entry) }) r
+        (record { counts = now (counts .exit); marks = now (marks .exit) })
+        ⌝ }
 {
     read_case(text, counts, marks)
 }
@@ -94,8 +104,7 @@ pub extern "C" fn nb_read_case(text: &[u8], counts: &mut [u32], marks: &mut [u64
 // Writes the frame, or the refusal, at the start of the lent buffer.
 #[no_mangle]
 pub extern "C" fn nb_write_frame(refusal: u8, fields: FrameFields, frame: &mut [u8]) -> u8
-    ensures { λ r. ⌜ r ≡ writingRefusal (length (now (frame .entry))) ⌝ }
-    ensures { λ _. ⌜ now (frame .exit) ≡ framed refusal fields (now (frame .entry)) ⌝ }
+    ensures { λ r. ⌜ WritingContract (printed refusal fields) (now (frame .entry)) r (now (frame .exit)) ⌝ }
 {
     write_frame(refusal, fields, frame)
 }
@@ -108,7 +117,12 @@ pub extern "C" fn nb_case(
     marks: &mut [u64],
     frame: &mut [u8],
 ) -> u8
-    ensures { λ r. ⌜ CasePromise (now (text .entry)) (now (counts .entry)) (now (marks .entry)) (now (frame .entry)) r (now (counts .exit)) (now (marks .exit)) (now (frame .exit)) ⌝ }
+    ensures { λ r. ⌜
+        CaseContract (now (text .entry))
+        (record { map = record { counts = now (counts .entry); marks = now (marks .entry) }; frame = now (frame .entry) })
+        r
+        (record { map = record { counts = now (counts .exit); marks = now (marks .exit) }; frame = now (frame .exit) })
+        ⌝ }
 {
     print_case(text, counts, marks, frame)
 }

@@ -16,7 +16,7 @@ refused-with-requires c κs = search needs
 returns : tie.Need-returns
 returns c =
     let s = c .before .before .before
-    in c .refused-with .ensures ∙ ended-by-sheet _ _ _ _ _ _ _ _ (s .sheet-of .ensures) (c .before .if1 .taken)
+    in c .refused-with .ensures ∙ ended-by-sheet _ (s .sheet-of .ensures) (c .before .if1 .taken)
 
 footprint-on-map-requires : tie.Need-footprint-on-map-requires
 footprint-on-map-requires c κs = search needs
@@ -28,7 +28,7 @@ returns-2 : tie.Need-returns-2
 returns-2 c =
     let f = c .before .before .before
     in let s = f .before .before .before
-    in c .refused-with2 .ensures ∙ ended-by-footprint _ _ _ _ _ _ _ _ (s .sheet-of .ensures) (f .before .if1 .left) (f .footprint-on-map .ensures) (c .before .if2 .taken)
+    in c .refused-with2 .ensures ∙ ended-by-footprint _ (s .sheet-of .ensures) (f .before .if1 .left) (f .footprint-on-map .ensures) (c .before .if2 .taken)
 
 intrinsic-class-requires : tie.Need-intrinsic-class-requires
 intrinsic-class-requires c κs = search needs
@@ -41,7 +41,7 @@ returns-3 c =
     let i = c .before .before .before
     in let f = i .before .before .before .before
     in let s = f .before .before .before
-    in c .refused-with3 .ensures ∙ ended-by-class _ _ _ _ _ _ _ _ (s .sheet-of .ensures) (f .before .if1 .left) (f .footprint-on-map .ensures) (i .before .before .if2 .left) (i .intrinsic-class .ensures) (c .before .if3 .taken)
+    in c .refused-with3 .ensures ∙ ended-by-class _ (s .sheet-of .ensures) (f .before .if1 .left) (f .footprint-on-map .ensures) (i .before .before .if2 .left) (i .intrinsic-class .ensures) (c .before .if3 .taken)
 
 final-class-requires : tie.Need-final-class-requires
 final-class-requires c κs = search needs
@@ -55,7 +55,7 @@ returns-4 c =
     in let i = k .before .before .before
     in let f = i .before .before .before .before
     in let s = f .before .before .before
-    in c .refused-with4 .ensures ∙ ended-by-mitigation _ _ _ _ _ _ _ _ (s .sheet-of .ensures) (f .before .if1 .left) (f .footprint-on-map .ensures) (i .before .before .if2 .left) (i .intrinsic-class .ensures) (k .before .if3 .left) (k .final-class .ensures) (c .before .if4 .taken)
+    in c .refused-with4 .ensures ∙ ended-by-mitigation _ (s .sheet-of .ensures) (f .before .if1 .left) (f .footprint-on-map .ensures) (i .before .before .if2 .left) (i .intrinsic-class .ensures) (k .before .if3 .left) (k .final-class .ensures) (c .before .if4 .taken)
 
 used-row-requires : tie.Need-used-row-requires
 used-row-requires c κs = search needs
@@ -66,7 +66,7 @@ returns-5 c =
     in let i = k .before .before .before
     in let f = i .before .before .before .before
     in let s = f .before .before .before
-    in not-refused _ _ _ _ _ _ _ _ (s .sheet-of .ensures) (f .before .if1 .left) (f .footprint-on-map .ensures) (i .before .before .if2 .left) (i .intrinsic-class .ensures) (k .before .if3 .left) (k .final-class .ensures) (c .before .used-row .ensures) (toZ-ofZ w8 (k .final-class .result .class) (search)) (c .before .before .if4 .left)
+    in not-refused _ (s .sheet-of .ensures) (f .before .if1 .left) (f .footprint-on-map .ensures) (i .before .before .if2 .left) (i .intrinsic-class .ensures) (k .before .if3 .left) (k .final-class .ensures) (c .before .used-row .ensures) (toZ-ofZ w8 (k .final-class .result .class) (search)) (c .before .before .if4 .left)
 
 pub assess-spec : {M : Type 1} → statement M
 assess-spec =

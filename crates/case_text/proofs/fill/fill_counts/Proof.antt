@@ -1,25 +1,23 @@
 -- `case_text::fill::fill_counts` meets its contract.
 use borrow.Author.Needs.{needs}
 use native.Mathlib.Omega.{arith}
-use Prim.Native.Nat.{_≤_, _-_, _*_}
+use Prim.Native.Nat.{_≤_, _-_}
 use mathlib.Core.Path.{_≡_}
 use lib.ListN.{length-take, length-drop}
 use denote.Ref.{now}
-use Rattle.arithmetic.specs.Lists.{joined}
-use Rattle.arithmetic.proofs.PartLaws.{Filled, row-none, row-next, filled-all}
-use Rattle.case_text.specs.Text.{mapRow, countsOf}
-use Rattle.case_text.proofs.ReadingLaws.{row-long}
+use Rattle.hex.proofs.FillLaws.{FilledLines, lines-none, lines-next, lines-all}
+use Rattle.case_text.specs.Layout.{countLines, countsStart, mapRows}
 use Rattle.case_text.proofs.fill.fill_counts.Statement.{statement}
 use Rattle.case_text.proofs.fill.fill_counts.Tie as tie
 
 abbrev Inv-loop : tie.InvT-loop
-Inv-loop text counts₀ r₀ counts r = (r ≤ 64) × Filled counts₀ (64 * r) (joined (mapRow text) r) counts
+Inv-loop text counts₀ r₀ counts r = (r ≤ mapRows) × FilledLines countLines text countsStart r counts₀ counts
 
 abbrev μ-loop : tie.MeasureT-loop
-μ-loop text counts₀ r₀ counts r = 64 - r
+μ-loop text counts₀ r₀ counts r = mapRows - r
 
 loop-holds : tie.Need-loop-holds Inv-loop μ-loop
-loop-holds c = (search needs, row-none 64 _ _)
+loop-holds c = (search needs, lines-none countLines _ _ _)
 
 mul-at : tie.Need-mul-at Inv-loop μ-loop
 mul-at c = omega arith
@@ -70,17 +68,16 @@ loop-again : tie.Need-loop-again Inv-loop μ-loop
 loop-again c =
     let at-loop = c .before .before .before .before .before .before in
     let start = at-loop .before .before .before in
-    (omega arith, row-next 64 (at-loop .loop .r) (mapRow (now (start .args .text))) (now (start .args .counts)) (at-loop .loop .counts) (c .before .before .fill-row .last .1 .0) (omega arith) (at-loop .loop .inv .1) (row-long _) (c .before .before .fill-row .ensures))
+    (omega arith, lines-next countLines (now (start .args .text)) countsStart (now (start .args .counts)) (at-loop .loop .r) (at-loop .loop .counts) (c .before .before .fill-row .last .1 .0) (omega arith) (at-loop .loop .inv .1) (c .before .before .fill-row .ensures))
 
 same-length : tie.Need-same-length Inv-loop μ-loop
 same-length c = c .before .loop .inv .1 .kept
 
 returns : tie.Need-returns Inv-loop μ-loop
-unfolding countsOf
 returns c =
     let start = c .before .before .before .before in
-    let past : c .before .loop .r ≡ 64 = omega arith in
-    filled-all (omega (arith, start .pre .1)) (rw past at (c .before .loop .inv .1))
+    let past : c .before .loop .r ≡ mapRows = omega arith in
+    lines-all countLines (now (start .args .text)) countsStart (now (start .args .counts)) (start .pre .1) (c .before .loop .counts) (rw past at (c .before .loop .inv .1))
 
 pub fill-counts-spec : {M : Type 1} → statement M
 fill-counts-spec =

@@ -4,20 +4,19 @@ use native.Mathlib.Omega.{arith}
 use Prim.Native.Nat.{_≤_, _-_}
 use mathlib.Core.Path.{_≡_}
 use denote.Ref.{now}
-use Rattle.arithmetic.specs.Lists.{tabulate}
-use Rattle.arithmetic.proofs.PartLaws.{Filled, rule-none, rule-next, filled-all}
-use Rattle.case_text.specs.Text.{markOf, marksOf}
+use Rattle.hex.proofs.FillLaws.{FilledLines, lines-none, field-next, lines-all}
+use Rattle.case_text.specs.Layout.{markWidth, markLines, marksStart, mapRows}
 use Rattle.case_text.proofs.fill.fill_marks.Statement.{statement}
 use Rattle.case_text.proofs.fill.fill_marks.Tie as tie
 
 abbrev Inv-loop : tie.InvT-loop
-Inv-loop text marks₀ k₀ marks k = (k ≤ 64) × Filled marks₀ k (tabulate (markOf text) k) marks
+Inv-loop text marks₀ k₀ marks k = (k ≤ mapRows) × FilledLines markLines text marksStart k marks₀ marks
 
 abbrev μ-loop : tie.MeasureT-loop
-μ-loop text marks₀ k₀ marks k = 64 - k
+μ-loop text marks₀ k₀ marks k = mapRows - k
 
 loop-holds : tie.Need-loop-holds Inv-loop μ-loop
-loop-holds c = (search needs, rule-none _ _)
+loop-holds c = (search needs, lines-none markLines _ _ _)
 
 mul-mark-at : tie.Need-mul-mark-at Inv-loop μ-loop
 mul-mark-at c = omega arith
@@ -44,17 +43,16 @@ loop-again : tie.Need-loop-again Inv-loop μ-loop
 loop-again c =
     let at-loop = c .before .before in
     let start = at-loop .before .before .before in
-    (omega arith, rule-next (markOf (now (start .args .text))) (at-loop .loop .k) (c .mark-at .result) (now (start .args .marks)) (at-loop .loop .marks) (omega arith) (at-loop .loop .inv .1) (c .mark-at .ensures))
+    (omega arith, field-next mapRows markWidth (now (start .args .text)) marksStart (now (start .args .marks)) (at-loop .loop .k) (c .mark-at .result) (at-loop .loop .marks) (omega arith) (at-loop .loop .inv .1) (c .mark-at .ensures))
 
 same-length : tie.Need-same-length Inv-loop μ-loop
 same-length c = c .before .loop .inv .1 .kept
 
 returns : tie.Need-returns Inv-loop μ-loop
-unfolding marksOf
 returns c =
     let start = c .before .before .before .before in
-    let past : c .before .loop .k ≡ 64 = omega arith in
-    filled-all (omega (arith, start .pre .1)) (rw past at (c .before .loop .inv .1))
+    let past : c .before .loop .k ≡ mapRows = omega arith in
+    lines-all markLines (now (start .args .text)) marksStart (now (start .args .marks)) (start .pre .1) (c .before .loop .marks) (rw past at (c .before .loop .inv .1))
 
 pub fill-marks-spec : {M : Type 1} → statement M
 fill-marks-spec =

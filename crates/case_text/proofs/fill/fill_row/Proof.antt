@@ -6,8 +6,7 @@ use native.Mathlib.Omega.{arith}
 use denote.Ref.{now}
 use Rattle.arithmetic.specs.Lists.{tabulate}
 use Rattle.case_text.specs.Layout.{mapColumns}
-use Rattle.case_text.specs.Text.{rowOf}
-use Rattle.case_text.proofs.ReadingLaws.{countIn, words-counts}
+use Rattle.case_text.proofs.CountLaws.{countIn, words-counts}
 use borrow.Author.Needs.{needs}
 use Rattle.case_text.proofs.fill.fill_row.Statement.{statement}
 use Rattle.case_text.proofs.fill.fill_row.Tie as tie
@@ -28,7 +27,6 @@ same-length : tie.Need-same-length
 same-length c = search needs
 
 returns : tie.Need-returns
-unfolding rowOf
 returns c =
     let start = c .before .before .before .before .before .before .before .before .before .before in
     c .before .before .fill-words .ensures

@@ -6,7 +6,7 @@ use mathlib.Core.Path.{_≡_}
 use denote.Ref.{now}
 use Rattle.arithmetic.specs.Lists.{tabulate}
 use Rattle.arithmetic.proofs.PartLaws.{Filled, rule-none, rule-next, filled-all}
-use Rattle.case_text.proofs.ReadingLaws.{countIn}
+use Rattle.case_text.proofs.CountLaws.{countIn}
 use Rattle.case_text.proofs.fill.fill_words.Statement.{statement}
 use Rattle.case_text.proofs.fill.fill_words.Tie as tie
 

@@ -1,6 +1,6 @@
 -- `case_text::fill::head_of` meets its contract.
-use denote.Ref.{now}
-use Rattle.case_text.proofs.ReadingLaws.{head-is}
+use Rattle.arithmetic.specs.Lists.{joined}
+use Rattle.hex.specs.Blocks.{valuesAt}
 use borrow.Author.Needs.{needs}
 use Rattle.case_text.proofs.fill.head_of.Statement.{statement}
 use Rattle.case_text.proofs.fill.head_of.Tie as tie
@@ -42,14 +42,20 @@ number-of-four-requires : tie.Need-number-of-four-requires
 number-of-four-requires c κs = search needs
 
 returns : tie.Need-returns
+unfolding valuesAt joined
 returns c =
     let at5 = c .before .before in
     let at4 = at5 .before .before in
     let at3 = at4 .before in
     let at2 = at3 .before in
-    let at1 = at2 .before in
-    head-is (now (at1 .before .before .args .text)) (at1 .eight-at .ensures) (at2 .eight-at2 .ensures) (at3 .eight-at3 .ensures) (at4 .eight-at4 .ensures)
-    (at5 .number-of-two .ensures) (c .number-of-four .ensures)
+    rw (
+      at2 .before .eight-at .ensures,
+      at2 .eight-at2 .ensures,
+      at3 .eight-at3 .ensures,
+      at4 .eight-at4 .ensures,
+      at5 .number-of-two .ensures,
+      c .number-of-four .ensures,
+    )
 
 pub head-of-spec : {M : Type 1} → statement M
 head-of-spec =

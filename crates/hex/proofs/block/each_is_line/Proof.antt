@@ -1,7 +1,7 @@
--- `case_text::refusals::are_lines` meets its contract.
+-- `hex::block::each_is_line` meets its contract.
 use borrow.Author.Needs.{needs}
 use native.Mathlib.Omega.{arith}
-use Prim.Native.Nat.{_≤_, _-_, _+_, _*_}
+use Prim.Native.Nat.{ℕ, _≤_, _<_, _-_, _+_, _*_}
 use mathlib.Core.Path.{_≡_, refl, sym, ap₂, _∙_}
 use mathlib.Core.Bool.{Bool, _&&_}
 use lib.ListN.{length}
@@ -9,30 +9,38 @@ use denote.Ref.{now}
 use Rattle.arithmetic.specs.Lists.{every, part}
 use Rattle.arithmetic.proofs.ListLaws.{every-one}
 use Rattle.arithmetic.proofs.PartLaws.{part-ends}
 use Rattle.hex.specs.Digits.{isLine}
-use Rattle.case_text.specs.Text.{areLines}
-use Rattle.case_text.proofs.refusals.are_lines.Statement.{statement}
-use Rattle.case_text.proofs.refusals.are_lines.Tie as tie
+use Rattle.hex.specs.Blocks.{eachIsLine}
+use Rattle.hex.proofs.block.each_is_line.Statement.{statement}
+use Rattle.hex.proofs.block.each_is_line.Tie as tie
+
+inside : (k n w : ℕ) → k < n → w * k + w ≤ w * n
+inside k n w l = omega (arith, part-ends k n w (w * n) l (omega arith))
 
 abbrev Inv-loop : tie.InvT-loop
-Inv-loop s width n good₀ k₀ good k = (k ≤ n) × (good ≡ areLines s width k)
+Inv-loop s start each n good₀ k₀ good k = (k ≤ n) × (good ≡ eachIsLine s start each k)
 
 abbrev μ-loop : tie.MeasureT-loop
-μ-loop s width n good₀ k₀ good k = n - k
+μ-loop s start each n good₀ k₀ good k = n - k
 
 loop-holds : tie.Need-loop-holds Inv-loop μ-loop
-unfolding areLines every
+unfolding eachIsLine every
 loop-holds c = (search needs, refl)
 
 mul-at : tie.Need-mul-at Inv-loop μ-loop
 mul-at c =
     let start = c .before .before .before in
-    omega (arith, part-ends (c .before .loop .k) (start .args .n) (start .args .width) (length (now (start .args .s))) (omega arith) (start .pre))
+    omega (arith, inside (c .before .loop .k) (start .args .n) (start .args .each) (omega arith))
+
+add-at : tie.Need-add-at Inv-loop μ-loop
+add-at c =
+    let start = c .before .before .before in
+    omega (arith, inside (c .before .loop .k) (start .args .n) (start .args .each) (omega arith))
 
 add-is-line : tie.Need-add-is-line Inv-loop μ-loop
 add-is-line c =
     let start = c .before .before .before in
-    omega (arith, part-ends (c .before .loop .k) (start .args .n) (start .args .width) (length (now (start .args .s))) (omega arith) (start .pre))
+    omega (arith, inside (c .before .loop .k) (start .args .n) (start .args .each) (omega arith))
 
 sub-is-line : tie.Need-sub-is-line Inv-loop μ-loop
 sub-is-line c = search needs
@@ -43,7 +51,7 @@ part-is-line-start c = search needs
 part-is-line-end : tie.Need-part-is-line-end Inv-loop μ-loop
 part-is-line-end c =
     let start = c .before .before .before in
-    omega (arith, part-ends (c .before .loop .k) (start .args .n) (start .args .width) (length (now (start .args .s))) (omega arith) (start .pre))
+    omega (arith, inside (c .before .loop .k) (start .args .n) (start .args .each) (omega arith))
 
 is-line-requires : tie.Need-is-line-requires Inv-loop μ-loop
 is-line-requires c κs = search needs
@@ -55,24 +63,26 @@ loop-less : tie.Need-loop-less Inv-loop μ-loop
 loop-less c = search needs
 
 loop-again : tie.Need-loop-again Inv-loop μ-loop
-unfolding areLines
+unfolding eachIsLine
 loop-again c =
     let at-loop = c .before .before .before in
     let s = now (at-loop .before .before .args .s) in
-    let w = at-loop .before .before .args .width in
-    (omega arith, ap₂ (λ (x y : Bool). x && y) (at-loop .loop .inv .1) (c .is-line .ensures) ∙ sym (every-one (λ k. isLine (part s (k * w) (k * w + w))) (at-loop .loop .k)))
+    let a = at-loop .before .before .args .start in
+    let each = at-loop .before .before .args .each in
+    (omega arith, ap₂ (λ (x y : Bool). x && y) (at-loop .loop .inv .1) (c .is-line .ensures) ∙ sym (every-one (λ k. isLine (part s (a + each * k) (a + each * k + each))) (at-loop .loop .k)))
 
 returns : tie.Need-returns Inv-loop μ-loop
 returns c = let past : c .before .loop .k ≡ c .before .before .before .args .n = omega arith in rw past at (c .before .loop .inv .1)
 
-pub are-lines-spec : {M : Type 1} → statement M
-are-lines-spec =
+pub each-is-line-spec : {M : Type 1} → statement M
+each-is-line-spec =
     tie.close
     (tie.spec
     Inv-loop
     μ-loop
     loop-holds
     mul-at
+    add-at
     add-is-line
     sub-is-line
     part-is-line-start

@@ -1,4 +1,4 @@
--- `frame::write_sheet_fields` meets its contract.
+-- `frame::write_area_fields` meets its contract.
 use mathlib.Core.List.{[], _∷_}
 use native.Mathlib.Omega.{arith}
 use lib.ListN.{take}
@@ -6,8 +6,8 @@ use denote.Ref.{now}
 use Rattle.hex.proofs.FieldLaws.{fields-stored}
 use Rattle.frame.specs.Frame.{frameFields}
 use borrow.Author.Needs.{needs}
-use Rattle.frame.proofs.write_sheet_fields.Statement.{statement}
-use Rattle.frame.proofs.write_sheet_fields.Tie as tie
+use Rattle.frame.proofs.write_area_fields.Statement.{statement}
+use Rattle.frame.proofs.write_area_fields.Tie as tie
 
 sub-write-digits : tie.Need-sub-write-digits
 sub-write-digits c = search needs
@@ -45,54 +45,22 @@ part-write-digits-end-3 c = search needs
 write-digits-requires-3 : tie.Need-write-digits-requires-3
 write-digits-requires-3 c κs = search needs
 
-sub-write-digits-4 : tie.Need-sub-write-digits-4
-sub-write-digits-4 c = search needs
-
-part-write-digits-start-4 : tie.Need-part-write-digits-start-4
-part-write-digits-start-4 c = search needs
-
-part-write-digits-end-4 : tie.Need-part-write-digits-end-4
-part-write-digits-end-4 c = search needs
-
-cast-write-digits : tie.Need-cast-write-digits
-cast-write-digits c = search needs
-
-write-digits-requires-4 : tie.Need-write-digits-requires-4
-write-digits-requires-4 c κs = search needs
-
-sub-write-digits-5 : tie.Need-sub-write-digits-5
-sub-write-digits-5 c = search needs
-
-part-write-digits-start-5 : tie.Need-part-write-digits-start-5
-part-write-digits-start-5 c = search needs
-
-part-write-digits-end-5 : tie.Need-part-write-digits-end-5
-part-write-digits-end-5 c = search needs
-
-cast-write-digits-2 : tie.Need-cast-write-digits-2
-cast-write-digits-2 c = search needs
-
-write-digits-requires-5 : tie.Need-write-digits-requires-5
-write-digits-requires-5 c κs = search needs
-
 same-length : tie.Need-same-length
 same-length c = search needs
 
 returns : tie.Need-returns
 returns c =
-    let at5 = c .before .before in
-    let at4 = at5 .before .before .before .before .before in
-    let at3 = at4 .before .before .before .before .before in
+    let at3 = c .before .before in
     let at2 = at3 .before .before .before .before in
     let at1 = at2 .before .before .before .before in
     let start = at1 .before .before .before in
-    fields-stored (take 5 (frameFields (start .args .f)))
-    (at1 .write-digits .last .0 ∷ at2 .write-digits2 .last .0 ∷ at3 .write-digits3 .last .0 ∷ at4 .write-digits4 .last .0 ∷ at5 .write-digits5 .last .0 ∷ [])
+    fields-stored (take 3 (frameFields (start .args .f)))
+    (at1 .write-digits .last .0 ∷ at2 .write-digits2 .last .0 ∷ at3 .write-digits3 .last .0 ∷ [])
     (now (start .args .buffer)) 0 (omega (arith, start .pre))
-    (at1 .write-digits .ensures, (at2 .write-digits2 .ensures, (at3 .write-digits3 .ensures, (at4 .write-digits4 .ensures, (at5 .write-digits5 .ensures, tt)))))
+    (at1 .write-digits .ensures, (at2 .write-digits2 .ensures, (at3 .write-digits3 .ensures, tt)))
 
-pub write-sheet-fields-spec : {M : Type 1} → statement M
-write-sheet-fields-spec =
+pub write-area-fields-spec : {M : Type 1} → statement M
+write-area-fields-spec =
     tie.close
     (tie.spec
     sub-write-digits
@@ -107,15 +75,5 @@ write-sheet-fields-spec =
     part-write-digits-start-3
     part-write-digits-end-3
     write-digits-requires-3
-    sub-write-digits-4
-    part-write-digits-start-4
-    part-write-digits-end-4
-    cast-write-digits
-    write-digits-requires-4
-    sub-write-digits-5
-    part-write-digits-start-5
-    part-write-digits-end-5
-    cast-write-digits-2
-    write-digits-requires-5
     same-length
     returns)

@@ -1,0 +1,92 @@
+-- `frame::write_column_fields` meets its contract.
+use mathlib.Core.List.{[], _∷_}
+use native.Mathlib.Omega.{arith}
+use lib.ListN.{take, drop}
+use denote.Ref.{now}
+use Rattle.hex.proofs.FieldLaws.{fields-stored}
+use Rattle.frame.specs.Layout.{columnStart}
+use Rattle.frame.specs.Frame.{frameFields}
+use borrow.Author.Needs.{needs}
+use Rattle.frame.proofs.write_column_fields.Statement.{statement}
+use Rattle.frame.proofs.write_column_fields.Tie as tie
+
+sub-write-digits : tie.Need-sub-write-digits
+sub-write-digits c = search needs
+
+part-write-digits-start : tie.Need-part-write-digits-start
+part-write-digits-start c = search needs
+
+part-write-digits-end : tie.Need-part-write-digits-end
+part-write-digits-end c = search needs
+
+cast-write-digits : tie.Need-cast-write-digits
+cast-write-digits c = search needs
+
+write-digits-requires : tie.Need-write-digits-requires
+write-digits-requires c κs = search needs
+
+sub-write-digits-2 : tie.Need-sub-write-digits-2
+sub-write-digits-2 c = search needs
+
+part-write-digits-start-2 : tie.Need-part-write-digits-start-2
+part-write-digits-start-2 c = search needs
+
+part-write-digits-end-2 : tie.Need-part-write-digits-end-2
+part-write-digits-end-2 c = search needs
+
+cast-write-digits-2 : tie.Need-cast-write-digits-2
+cast-write-digits-2 c = search needs
+
+write-digits-requires-2 : tie.Need-write-digits-requires-2
+write-digits-requires-2 c κs = search needs
+
+sub-write-digits-3 : tie.Need-sub-write-digits-3
+sub-write-digits-3 c = search needs
+
+part-write-digits-start-3 : tie.Need-part-write-digits-start-3
+part-write-digits-start-3 c = search needs
+
+part-write-digits-end-3 : tie.Need-part-write-digits-end-3
+part-write-digits-end-3 c = search needs
+
+cast-write-digits-3 : tie.Need-cast-write-digits-3
+cast-write-digits-3 c = search needs
+
+write-digits-requires-3 : tie.Need-write-digits-requires-3
+write-digits-requires-3 c κs = search needs
+
+same-length : tie.Need-same-length
+same-length c = search needs
+
+returns : tie.Need-returns
+returns c =
+    let at3 = c .before .before in
+    let at2 = at3 .before .before .before .before .before in
+    let at1 = at2 .before .before .before .before .before in
+    let start = at1 .before .before .before .before in
+    fields-stored (take 3 (drop 3 (frameFields (start .args .f))))
+    (at1 .write-digits .last .0 ∷ at2 .write-digits2 .last .0 ∷ at3 .write-digits3 .last .0 ∷ [])
+    (now (start .args .buffer)) columnStart (omega (arith, start .pre))
+    (at1 .write-digits .ensures, (at2 .write-digits2 .ensures, (at3 .write-digits3 .ensures, tt)))
+
+pub write-column-fields-spec : {M : Type 1} → statement M
+write-column-fields-spec =
+    tie.close
+    (tie.spec
+    sub-write-digits
+    part-write-digits-start
+    part-write-digits-end
+    cast-write-digits
+    write-digits-requires
+    sub-write-digits-2
+    part-write-digits-start-2
+    part-write-digits-end-2
+    cast-write-digits-2
+    write-digits-requires-2
+    sub-write-digits-3
+    part-write-digits-start-3
+    part-write-digits-end-3
+    cast-write-digits-3
+    write-digits-requires-3
+    same-length
+    returns)
