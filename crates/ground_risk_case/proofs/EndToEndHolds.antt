@@ -12,12 +12,12 @@ use lib.Signed.{_≤ℤ_}
 use Rattle.arithmetic.specs.Fraction.{_over_, _⊑_}
 use Rattle.arithmetic.proofs.TestLaws.{not-refused, went-on, cond-le}
 use Rattle.arithmetic.proofs.FractionLaws.{trans-le}
+use Rattle.columns.specs.Column.{lastLimit}
+use Rattle.columns.proofs.ColumnLaws.{column-max}
 use Rattle.sheet.specs.declared.Sheet.{Sheet}
-use Rattle.sheet.specs.Column.{lastLimit}
 use Rattle.sheet.specs.declared.SheetAnswer.{SheetAnswer}
 use Rattle.sheet.specs.Sheet.{linesOf, sheetOf}
-use Rattle.sheet.proofs.LineBounds.{column-max}
-use Rattle.sheet.proofs.ColumnLaws.{lines-column}
+use Rattle.sheet.proofs.LineLaws.{lines-column}
 use Rattle.sheet.proofs.AcceptanceHolds.{refused-exactly-when, sheet-promise}
 use Rattle.exact_area.specs.ExactArea.{exactArea}
 use Rattle.exact_area.specs.Accuracy.{AreaIsAccurate}

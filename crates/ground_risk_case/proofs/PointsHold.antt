@@ -15,8 +15,8 @@ use Rattle.arithmetic.specs.Lists.{stored}
 use Rattle.arithmetic.proofs.EachLaws.{each-append, each-map}
 use Rattle.arithmetic.proofs.ListLaws.{length-tabulate, tabulate-at}
 use Rattle.arithmetic.proofs.TestLaws.{lt-or-le, cond-le}
-use Rattle.sheet.specs.Lines.{runOf, savingOf, totalOf, areaOf}
-use Rattle.sheet.specs.Column.{columnBy, columnOf, flagOf}
+use Rattle.columns.specs.Column.{columnBy, columnOf, flagOf}
+use Rattle.sheet.specs.Lines.{runOf, savingOf, totalOf, formulaOf, areaOf}
 use Rattle.sheet.specs.Sheet.{withLines, linesOf, sheetOf}
 use Rattle.sheet.specs.Points.{sheetPoints}
 use Rattle.sheet.proofs.PointsHold.{sheet-points-hold}
@@ -52,7 +52,7 @@ told a = record { refusal = a .refusal; fields = printedFields a }
 
 p16-assessment : (counts marks : List ℕ) → P16Map counts marks →
     told (assessmentOf (p16Head .dimension) (p16Head .mass) (p16Head .speed) counts marks (p16Head .«cell_area») (p16Head .controlled) (p16Head .word)) ≡ record { refusal = 0; fields = p16Fields }
-unfolding assessmentOf assessedBy workingOn afterFootprint afterClass sheetOf linesOf withLines flagOf columnOf columnBy areaOf totalOf savingOf runOf divUp intrinsicClassOf classAt finalClassOf creditAt anyBelow
+unfolding assessmentOf assessedBy workingOn afterFootprint afterClass sheetOf linesOf withLines flagOf columnOf columnBy areaOf formulaOf totalOf savingOf runOf divUp intrinsicClassOf classAt finalClassOf creditAt anyBelow
 p16-assessment counts marks h = rw (p16-footprint counts marks h)
 
 p16-told : (t : List ℕ) → P16Text t → told (outcomeOf t mapCells mapRows) ≡ record { refusal = 0; fields = p16Fields }

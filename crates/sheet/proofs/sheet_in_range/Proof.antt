@@ -1,7 +1,7 @@
 -- `sheet_in_range` gives the sheet of an aircraft within its ranges, or refusal 4.
 use mathlib.Core.Path.{_∙_}
 use native.Mathlib.Omega.{arith}
-use Rattle.sheet.proofs.LinesMade.{glide-fits, slide-fits, total-fits, refused-4, given}
+use Rattle.sheet.proofs.LinesMade.{glide-fits, slide-fits, total-fits, refused-4, accepted}
 use borrow.Author.Needs.{needs}
 use Rattle.sheet.proofs.sheet_in_range.Statement.{statement}
 use Rattle.sheet.proofs.sheet_in_range.Tie as tie
@@ -45,19 +45,21 @@ returns : tie.Need-returns
 returns c =
     let at-total = c .before .before .before .before in
     let at-saving = at-total .before .before in
-    let args = at-saving .before .before .before .args in
+    let start = at-saving .before .before .before in
+    let args = start .args in
     c .refused-with .ensures
-    ∙ refused-4 (args .mass) (args .speed) (at-saving .before .run .ensures) (at-saving .saving .ensures) (at-total .before .slide .ensures) (args .dimension) (at-saving .before .before .glide .ensures) (at-total .total .ensures) (c .before .before .before .area .ensures) (c .before .if1 .taken)
+    ∙ refused-4 (args .mass) (args .speed) (at-saving .before .run .ensures) (at-saving .saving .ensures) (at-total .before .slide .ensures) (args .dimension) (at-saving .before .before .glide .ensures) (at-total .total .ensures) (c .before .before .before .area .ensures) (start .pre) (c .before .if1 .taken)
 
 column-and-flag-requires : tie.Need-column-and-flag-requires
-column-and-flag-requires c κs = c .if1 .left
+column-and-flag-requires c κs = search needs
 
 returns-2 : tie.Need-returns-2
 returns-2 c =
     let at-total = c .before .before .before .before in
     let at-saving = at-total .before .before in
-    let args = at-saving .before .before .before .args in
-    given (args .mass) (args .speed) (at-saving .before .run .ensures) (at-saving .saving .ensures) (at-total .before .slide .ensures) (args .dimension) (at-saving .before .before .glide .ensures) (at-total .total .ensures) (c .before .before .before .area .ensures) (c .column-and-flag .ensures .0) (c .column-and-flag .ensures .1) (c .before .if1 .left)
+    let start = at-saving .before .before .before in
+    let args = start .args in
+    accepted (args .mass) (args .speed) (at-saving .before .run .ensures) (at-saving .saving .ensures) (at-total .before .slide .ensures) (args .dimension) (at-saving .before .before .glide .ensures) (at-total .total .ensures) (c .before .before .before .area .ensures) (start .pre) (c .column-and-flag .ensures) (c .before .if1 .left)
 
 pub sheet-in-range-spec : {M : Type 1} → statement M
 sheet-in-range-spec =
