@@ -35,12 +35,12 @@ module _ (area : Bracket) (under : ℕ → Bool) (in-bracket : LiesIn area under
       by-test false e = e
 
   -- the first limit that is at least the high area is that of column k + 1
-  module _ (one : MeetsAtMostOneLimit area) (k : ℕ) (first : FirstAt (leb (area .high)) limits k) where
+  module _ (at-most-one : MeetsAtMostOneLimit area) (k : ℕ) (first : FirstAt (leb (area .high)) limits k) where
     -- two limits back, the exact area is above
     two-back : (i : ℕ) → suc i < k → under (limitAt i) ≡ false
     two-back i h =
-        not-under (limitAt i)
-        (one i (omega (arith, first .inside)) (rw (add-one i) (leb-false (area .high) (limitAt (suc i)) (first .before (suc i) h))))
+        let below : limitAt (i + 1) < area .high = rw (add-one i) (leb-false (area .high) (limitAt (suc i)) (first .before (suc i) h)) in
+        not-under (limitAt i) (omega (arith, at-most-one i (omega (arith, first .inside)) below))
 
     -- not under the limit before the column: the columns agree
     same-column : ((i : ℕ) → suc i ≡ k → under (limitAt i) ≡ false) → columnBy under ≡ suc k
@@ -76,12 +76,12 @@ module _ (area : Bracket) (under : ℕ → Bool) (in-bracket : LiesIn area under
 
 pub exact-column : ExactColumnLaw
 unfolding columnOf
-exact-column area under in-bracket one top =
+exact-column area under in-bracket at-most-one top =
     let found = limit-found (area .high) top in
     let column = column-at (leb (area .high)) (found .0) (found .1) in
     record {
       exact-in-table = column-in-table under (in-bracket .high-at-least lastLimit top);
       flag-zero-or-one = flag-at-most-one (area .low) (columnBy (leb (area .high)));
-      unflagged = λ e. unflagged-at area under in-bracket one (found .0) (found .1) (rw column at e) ∙ sym column;
-      flagged = λ _. rw column (same-or-one-less area under in-bracket one (found .0) (found .1));
+      unflagged = λ e. unflagged-at area under in-bracket at-most-one (found .0) (found .1) (rw column at e) ∙ sym column;
+      flagged = λ _. rw column (same-or-one-less area under in-bracket at-most-one (found .0) (found .1));
     }

@@ -54,23 +54,15 @@ exact-pos w m v h =
     times-pos (10000 over 1) _ (lit< tt)
     (in-pos (formulaOf w) (halfWidth w) exactGlide (exactSlide m v) (width-pos w) glide-pos (slide-pos m v h))
 
--- the two widths of demand 3
-width : (w m v : ℕ) → InRange w m v → linesOf w m v .area .high ≤ linesOf w m v .area .low + 7
-unfolding divUp
-width w m v r = omega (arith, area-width w m v r)
-
-width-to-8-metres : (w m v : ℕ) → InRange w m v → w ≤ 8000 → linesOf w m v .area .high ≤ linesOf w m v .area .low + 2
-unfolding divUp
-width-to-8-metres w m v r h = omega (arith, area-width w m v r)
-
 lines-area : (w m v : ℕ) → InRange w m v → AreaIsAccurate w m v (linesOf w m v)
+unfolding divUp
 lines-area w m v r =
     record {
       denominator-above-zero = exact-pos w m v (omega arith);
       low-at-most = low-bound w m v (omega arith);
       high-at-least = high-bound w m v;
-      width = width w m v r;
-      width-to-8-metres = width-to-8-metres w m v r;
+      width = omega (arith, area-width w m v r);
+      width-to-8-metres = λ h. omega (arith, area-width w m v r);
     }
 
 lines-columns : (w m v : ℕ) → InRange w m v → linesOf w m v .area .high ≤ lastLimit → ColumnIsAccurate w m v (linesOf w m v)

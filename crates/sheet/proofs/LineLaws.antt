@@ -1,4 +1,4 @@
--- What the lines promise before they are made into one another: how each is rounded, and how far its two ends lie apart.
+-- Laws of the lines: what each is the rounding of, and how far its two ends lie apart.
 use mathlib.Core.Path.{_≡_, refl}
 use Prim.Native.Nat.{ℕ, _+_, _-_, _*_, _/_, _≤_, _<_}
 use native.Mathlib.Nat.{mul-le-mul, mul-le-mul-left}
