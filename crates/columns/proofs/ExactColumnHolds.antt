@@ -2,14 +2,14 @@
 use mathlib.Core.Path.{_≡_, refl, sym, _∙_, subst}
 use mathlib.Core.Bool.{Bool, true, false, cond}
 use mathlib.Core.Logic.{_⊎_, inl, inr, ⊎-elim}
-use Prim.Native.Nat.{ℕ, zero, suc, _+_, _-_, _≤_, _<_}
+use Prim.Native.Nat.{ℕ, zero, suc, _+_, _-_, _<_}
 use native.Mathlib.Nat.{eq-or-lt-of-le}
 use native.Mathlib.Numerals.{add-one}
 use native.Mathlib.Omega.{arith}
 use lib.Dec.{leb}
 use borrow.Author.Tests.{leb-true, leb-false, lt-ltb}
 use Rattle.columns.specs.Column.{limits, limitAt, lastLimit, columnBy, columnOf, flagOf}
-use Rattle.columns.specs.ExactColumn.{LiesIn, MeetsAtMostOneLimit, ColumnAgrees, ExactColumnLaw}
+use Rattle.columns.specs.ExactColumn.{LiesIn, MeetsAtMostOneLimit, ExactColumnLaw}
 use Rattle.columns.specs.declared.Bracket.{Bracket}
 use Rattle.columns.proofs.FirstInTable.{FirstAt}
 use Rattle.columns.proofs.ColumnLaws.{column-at, limit-found, column-in-table, flag-at-most-one}

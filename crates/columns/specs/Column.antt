@@ -30,7 +30,7 @@ firstFrom p k (x ∷ xs) = cond (p x) k (firstFrom p (suc k) xs)
 unfoldable pub columnBy : (ℕ → Bool) → ℕ
 columnBy under = firstFrom under 1 limits
 
--- "The column is the first whose area limit is at least the high area"
+-- "The column is the first whose area limit is at least the high area"; 0 above the last limit
 unfoldable pub columnOf : ℕ → ℕ
 columnOf high = columnBy (leb high)
 

@@ -1,10 +1,10 @@
--- What the column and the flag of a bracket say of the exact column, whatever the exact area is known by: a test that tells of each limit whether the area
--- is under it.
+-- What the column and the flag of a bracket say of the exact column. The exact area need be no fraction: it is known by a test that tells of each limit
+-- whether the area is under it, that is at most the limit.
 use mathlib.Core.Path.{_≡_}
 use mathlib.Core.Bool.{Bool, true}
 use mathlib.Core.Logic.{_⊎_}
 use Prim.Native.Nat.{ℕ, _+_, _≤_, _<_}
-use Rattle.columns.specs.Column.{columnCount, limitAt, lastLimit, columnBy, columnOf, flagOf}
+use Rattle.columns.specs.Column.{columnCount, limitAt, lastLimit, columnBy, columnAndFlagOf}
 use Rattle.columns.specs.declared.Bracket.{Bracket}
 
 -- the exact area lies in the bracket, as far as tests of whole numbers tell
@@ -23,7 +23,8 @@ pub record ColumnAgrees (exact column flag : ℕ) : Type 0 where
   pub unflagged : flag ≡ 0 → exact ≡ column
   pub flagged : flag ≡ 1 → (exact ≡ column) ⊎ (exact + 1 ≡ column)
 
+-- they do for every area, and every test of it, that lies in a bracket which meets at most one limit and ends within the last
 abbrev pub ExactColumnLaw : Type 0
 ExactColumnLaw =
     (area : Bracket) (under : ℕ → Bool) → LiesIn area under → MeetsAtMostOneLimit area → area .high ≤ lastLimit
-    → ColumnAgrees (columnBy under) (columnOf (area .high)) (flagOf (area .low) (columnOf (area .high)))
+    → ColumnAgrees (columnBy under) (columnAndFlagOf area .column) (columnAndFlagOf area .flag)

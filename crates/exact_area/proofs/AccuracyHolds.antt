@@ -1,6 +1,6 @@
 -- Demand 3 on areas and columns, of the answers of `sheetOf`.
 use mathlib.Core.Path.{_≡_, ap}
-use Prim.Native.Nat.{ℕ, _+_, _-_, _≤_, _<_}
+use Prim.Native.Nat.{ℕ, _-_, _≤_, _<_}
 use native.Mathlib.Nat.{mul-le-mul-right}
 use native.Mathlib.Omega.{arith}
 use lib.Dec.{lit<}

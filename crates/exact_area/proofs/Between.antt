@@ -1,13 +1,12 @@
 -- The exact area lies between the low and the high one: low and high go through the formula by the laws of fractions, and nothing is multiplied out.
-use Prim.Native.Nat.{ℕ, _+_, _-_, _*_, _/_, _^_, _≤_, _<_}
+use Prim.Native.Nat.{ℕ, _-_, _*_, _^_, _≤_, _<_}
 use native.Mathlib.Omega.{arith}
 use lib.Dec.{lit≤, lit<}
 use Rattle.arithmetic.specs.Fraction.{Fraction, _over_, plus, minus, times, divided, _⊑_}
 use Rattle.sheet.specs.Lines.{Formula, whole, sixTenths, glideOnly, fullWidth, glideOf, runRate, runScale, runOf, savingOf, slideOf, formulaOf, areaDen}
 use Rattle.sheet.specs.Sheet.{linesOf}
 use Rattle.sheet.proofs.FormulaLaws.{denominator-pos}
-use Rattle.sheet.proofs.LineLaws.{areaNumAt, area-low, area-high}
-use Rattle.sheet.proofs.LineLaws as line
+use Rattle.sheet.proofs.LineLaws.{run-rounded-down, run-rounded-up, saving-rounded-down, saving-rounded-up, areaNumAt, area-rounded-down, area-rounded-up}
 use Rattle.exact_area.specs.ExactArea.{exactGlide, speedTerm, massTerm, friction, exactSlide, halfWidth, wholeArea, exactBy, exactArea}
 use Rattle.arithmetic.proofs.FractionLaws.{refl-le, trans-le, plus-mono, times-mono, divided-mono, minus-mono}
 use Rattle.arithmetic.proofs.RoundingLaws.{rate}
@@ -33,7 +32,7 @@ run-low-at x v h = omega arith
 run-low : (v : ℕ) → times (micro (runOf v .low)) friction ⊑ speedTerm v
 run-low v =
     run-low-at (runOf v .low) v
-    (rate _ (v * v) runScale (runRate .low) (532448828795 * 532448828795) (14715 * 10 ^ 19) (lit< tt) (line.run-low v) (lit≤ tt))
+    (rate _ (v * v) runScale (runRate .low) (532448828795 * 532448828795) (14715 * 10 ^ 19) (lit< tt) (run-rounded-down v) (lit≤ tt))
 
 run-high-at : (x v : ℕ) → v * v * (532448828795 * 532448828795) ≤ x * (14715 * 10 ^ 19) → speedTerm v ⊑ times (micro x) friction
 unfolding friction speedTerm times
@@ -42,15 +41,15 @@ run-high-at x v h = omega arith
 run-high : (v : ℕ) → speedTerm v ⊑ times (micro (runOf v .high)) friction
 run-high v =
     run-high-at (runOf v .high) v
-    (rate (v * v) _ (runRate .high) runScale (14715 * 10 ^ 19) (532448828795 * 532448828795) (lit< tt) (line.run-high v) (lit≤ tt))
+    (rate (v * v) _ (runRate .high) runScale (14715 * 10 ^ 19) (532448828795 * 532448828795) (lit< tt) (run-rounded-up v) (lit≤ tt))
 
 saving-low : (m : ℕ) → times (micro (savingOf m .low)) friction ⊑ massTerm m
 unfolding friction massTerm times divided
-saving-low m = omega (arith, line.saving-low m)
+saving-low m = omega (arith, saving-rounded-down m)
 
 saving-high : (m : ℕ) → 0 < m → massTerm m ⊑ times (micro (savingOf m .high)) friction
 unfolding friction massTerm times divided
-saving-high m h = omega (arith, line.saving-high m h)
+saving-high m h = omega (arith, saving-rounded-up m h)
 
 -- the slide of a run and a saving of the sheet
 slideAt : ℕ → ℕ → Fraction
@@ -145,7 +144,7 @@ module _ (w m v : ℕ) where
   pub low-bound : 0 < m → linesOf w m v .area .low over 1 ⊑ exactArea w m v
   unfolding exactArea areaAt line6
   low-bound h =
-      trans-le (linesOf w m v .area .low over 1) (line6 f a g s) (exactArea w m v) (denominator-pos f) (omega (arith, area-low w m v))
+      trans-le (linesOf w m v .area .low over 1) (line6 f a g s) (exactArea w m v) (denominator-pos f) (omega (arith, area-rounded-down w m v))
       (trans-le (line6 f a g s) (areaAt f a g s) (exactArea w m v) (areaAt-pos f a g s) (line6-from f a g s)
       (times-mono (10000 over 1) _ (10000 over 1) _ (refl-le (10000 over 1))
       (area-mono f (a over 2000) (micro g) (micro s) (halfWidth w) exactGlide (exactSlide m v) (width-from w) glide-low (slide-low m v h))))
@@ -164,7 +163,7 @@ module _ (w m v : ℕ) where
       (times-mono (10000 over 1) _ (10000 over 1) _ (refl-le (10000 over 1))
       (area-mono f (halfWidth w) exactGlide (exactSlide m v) (a over 2000) (micro g) (micro s) (width-to w) glide-high (slide-high m v)))
       (line6-to f a g s))
-      (omega (arith, area-high w m v))
+      (omega (arith, area-rounded-up w m v))
     where
       g : ℕ
       g = glideOf .high

@@ -1,7 +1,5 @@
 -- What the law of the exact column asks, of a fraction between two whole numbers that are at most 7 apart.
-use mathlib.Core.Path.{_≡_}
-use mathlib.Core.Bool.{true}
-use Prim.Native.Nat.{ℕ, _+_, _*_, _≤_, _<_}
+use Prim.Native.Nat.{_+_, _*_, _≤_, _<_}
 use native.Mathlib.Nat.{mul-le-mul-right, le-of-mul-le-mul-right}
 use native.Mathlib.Omega.{arith}
 use borrow.Author.Tests.{leb-true, le-leb}

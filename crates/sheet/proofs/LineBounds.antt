@@ -1,5 +1,5 @@
 -- Bounds of the sheet's lines over the accepted range: every number fits 64 bits.
-use Prim.Native.Nat.{ℕ, _-_, _≤_}
+use Prim.Native.Nat.{ℕ, _≤_}
 use native.Mathlib.Nat.{mul-le-mul, add-le-add}
 use native.Mathlib.Omega.{arith}
 use Rattle.arithmetic.specs.Rounding.{divUp}

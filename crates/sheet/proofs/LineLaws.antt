@@ -1,6 +1,6 @@
 -- Laws of the lines: what each is the rounding of, and how far its two ends lie apart.
 use mathlib.Core.Path.{_≡_, refl}
-use Prim.Native.Nat.{ℕ, _+_, _-_, _*_, _/_, _≤_, _<_}
+use Prim.Native.Nat.{ℕ, _+_, _*_, _/_, _≤_, _<_}
 use native.Mathlib.Nat.{mul-le-mul, mul-le-mul-left}
 use native.Mathlib.Omega.{arith}
 use lib.Dec.{lit<}
@@ -14,34 +14,34 @@ use Rattle.sheet.proofs.FormulaLaws.{denominator-pos}
 
 -- ---- the low end at most, the high end at least, what is rounded
 
-pub run-low : (v : ℕ) → runOf v .low * runScale ≤ v * v * runRate .low
+pub run-rounded-down : (v : ℕ) → runOf v .low * runScale ≤ v * v * runRate .low
 unfolding runOf
-run-low v = down-low (v * v * runRate .low) runScale
+run-rounded-down v = down-low (v * v * runRate .low) runScale
 
-pub run-high : (v : ℕ) → v * v * runRate .high ≤ runOf v .high * runScale
+pub run-rounded-up : (v : ℕ) → v * v * runRate .high ≤ runOf v .high * runScale
 unfolding runOf
-run-high v = up-high (v * v * runRate .high) runScale (lit< tt)
+run-rounded-up v = up-high (v * v * runRate .high) runScale (lit< tt)
 
-pub saving-low : (m : ℕ) → savingOf m .low * m ≤ savingTimesMass .low
+pub saving-rounded-down : (m : ℕ) → savingOf m .low * m ≤ savingTimesMass .low
 unfolding savingOf
-saving-low m = down-low (savingTimesMass .low) m
+saving-rounded-down m = down-low (savingTimesMass .low) m
 
-pub saving-high : (m : ℕ) → 0 < m → savingTimesMass .high ≤ savingOf m .high * m
+pub saving-rounded-up : (m : ℕ) → 0 < m → savingTimesMass .high ≤ savingOf m .high * m
 unfolding savingOf
-saving-high m h = up-high (savingTimesMass .high) m h
+saving-rounded-up m h = up-high (savingTimesMass .high) m h
 
 -- line 6 before it is rounded, of one end of glide and slide
 abbrev pub areaNumAt : Formula → ℕ → ℕ → ℕ → ℕ
 areaNumAt f a glide slide = areaNum f a glide (totalAt a glide slide)
 
 module _ (w m v : ℕ) where
-  pub area-low : linesOf w m v .area .low * areaDen (formulaOf w) ≤ areaNumAt (formulaOf w) (fullWidth w) (glideOf .low) (slideOf (runOf v) (savingOf m) .low)
+  pub area-rounded-down : linesOf w m v .area .low * areaDen (formulaOf w) ≤ areaNumAt (formulaOf w) (fullWidth w) (glideOf .low) (slideOf (runOf v) (savingOf m) .low)
   unfolding linesOf withLines areaOf totalOf
-  area-low = down-low _ (areaDen (formulaOf w))
+  area-rounded-down = down-low _ (areaDen (formulaOf w))
 
-  pub area-high : areaNumAt (formulaOf w) (fullWidth w) (glideOf .high) (slideOf (runOf v) (savingOf m) .high) ≤ linesOf w m v .area .high * areaDen (formulaOf w)
+  pub area-rounded-up : areaNumAt (formulaOf w) (fullWidth w) (glideOf .high) (slideOf (runOf v) (savingOf m) .high) ≤ linesOf w m v .area .high * areaDen (formulaOf w)
   unfolding linesOf withLines areaOf totalOf
-  area-high = up-high _ (areaDen (formulaOf w)) (denominator-pos (formulaOf w))
+  area-rounded-up = up-high _ (areaDen (formulaOf w)) (denominator-pos (formulaOf w))
 
   -- the column and the flag are those of the area
   pub lines-column : linesOf w m v .column ≡ columnOf (linesOf w m v .area .high)
@@ -90,7 +90,7 @@ formula-width sixTenths a g s t h =
     six-tenths-width (3 * totalAt a g s) (3 * totalAt a (g + 1) t) a (omega (arith, mul-le-mul-left 3 (total-width a g s t h)))
 formula-width glideOnly a g s t h = glide-only-width (glideOnlyAt a g) (glideOnlyAt a (g + 1)) a (omega arith)
 
--- the two areas differ by no more than a twenty-thousandth of the full width, in whole square centimetres, and one
+-- the two areas differ by at most a twenty-thousandth of the full width, rounded up, and one
 pub area-width : (w m v : ℕ) → InRange w m v → linesOf w m v .area .high ≤ linesOf w m v .area .low + 1 + divUp (fullWidth w) 20000
 unfolding linesOf withLines areaOf totalOf
 area-width w m v r = formula-width (formulaOf w) (fullWidth w) (glideOf .low) _ _ (slide-width m v (omega arith) (r .speed-most))

@@ -1,9 +1,11 @@
 -- The lines as the code makes them, each from those before it: their bounds, and the answer that they make.
 use mathlib.Core.Path.{_≡_, refl, sym}
+use mathlib.Core.Bool.{cond}
 use Prim.Native.Nat.{ℕ, _≤_, _<_}
 use native.Mathlib.Omega.{arith}
 use borrow.Author.Tests.{lt-ltb, le-ltb}
-use Rattle.arithmetic.proofs.RefusalLaws.{way-out-after}
+use lib.Dec.{eqb}
+use Rattle.arithmetic.proofs.RefusalLaws.{FollowsFrom, way-out-after}
 use Rattle.columns.specs.Column.{lastLimit, columnAndFlagOf}
 use Rattle.columns.specs.declared.Bracket.{Bracket}
 use Rattle.columns.specs.declared.ColumnAndFlag.{ColumnAndFlag}
@@ -16,17 +18,16 @@ use Rattle.sheet.proofs.LineBounds.{slide-max, total-max}
 use Rattle.sheet.proofs.RangeLaws.{range-passed}
 
 -- the area's test, after those of the ranges
-module _ (w m v : ℕ) (r : InRange w m v) where
-  area-refused : {area : Bracket} → area ≡ linesOf w m v .area → lastLimit < area .high → refusedSheet 4 ≡ sheetOf w m v
+module _ (w m v : ℕ) (ranges : InRange w m v) where
+  way-out : (n : ℕ) → FollowsFrom (areaTests (linesOf w m v)) n (cond (eqb n 0) (acceptedSheet (linesOf w m v)) (refusedSheet n) ≡ sheetOf w m v)
   unfolding sheetOf
-  area-refused e h =
-      way-out-after (acceptedSheet (linesOf w m v)) refusedSheet (rangeTests w m v) (areaTests (linesOf w m v)) refl (sym (range-passed w m v r)) refl refl 4 (rw e at (lt-ltb _ _ h))
+  way-out = way-out-after _ _ (rangeTests w m v) (areaTests (linesOf w m v)) refl (sym (range-passed w m v ranges)) refl refl
+
+  area-refused : {area : Bracket} → area ≡ linesOf w m v .area → lastLimit < area .high → refusedSheet 4 ≡ sheetOf w m v
+  area-refused e h = way-out 4 (rw e at (lt-ltb _ _ h))
 
   area-accepted : {s : Sheet} → s ≡ linesOf w m v → s .area .high ≤ lastLimit → acceptedSheet s ≡ sheetOf w m v
-  unfolding sheetOf
-  area-accepted e h =
-      rw e
-      (way-out-after (acceptedSheet (linesOf w m v)) refusedSheet (rangeTests w m v) (areaTests (linesOf w m v)) refl (sym (range-passed w m v r)) refl refl 0 (rw e at (le-ltb _ _ h)))
+  area-accepted e h = rw e (way-out 0 (rw e at (le-ltb _ _ h)))
 
 pub glide-fits : {glide : Bracket} → glide ≡ glideOf → AtMost glide glideMax
 glide-fits g = rw g (omega arith)

@@ -5,7 +5,7 @@ use lib.Dec.{ltb}
 use Rattle.arithmetic.specs.Tests.{outside}
 use Rattle.arithmetic.specs.Refusals.{Test, _when_, answered}
 use Rattle.columns.specs.Bracket.{bracket}
-use Rattle.columns.specs.Column.{lastLimit, columnOf, flagOf}
+use Rattle.columns.specs.Column.{lastLimit, columnAndFlagOf}
 use Rattle.columns.specs.declared.Bracket.{Bracket}
 use Rattle.sheet.specs.Ranges.{dimensionMin, dimensionMax, massMin, massMax, speedMax}
 use Rattle.sheet.specs.Lines.{fullWidth, glideOf, runOf, savingOf, slideOf, totalOf, formulaOf, areaOf}
@@ -22,8 +22,8 @@ withLines run saving slide total area =
       slide = slide;
       total = total;
       area = area;
-      column = columnOf (area .high);
-      flag = flagOf (area .low) (columnOf (area .high));
+      column = columnAndFlagOf area .column;
+      flag = columnAndFlagOf area .flag;
     }
 
 -- "all six lines are filled at every dimension"
