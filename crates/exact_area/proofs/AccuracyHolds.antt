@@ -1,25 +1,25 @@
 -- Demand 3 on areas and columns, of the answers of `sheetOf`.
-use mathlib.Core.Path.{_≡_, sym, ap, _∙_}
-use Prim.Native.Nat.{ℕ, suc, _-_, _≤_, _<_}
+use mathlib.Core.Path.{_≡_, ap}
+use Prim.Native.Nat.{ℕ, _-_, _≤_, _<_}
 use native.Mathlib.Nat.{mul-le-mul-right}
 use native.Mathlib.Omega.{arith}
-use lib.Dec.{leb, lit<}
+use lib.Dec.{lit<}
 use Rattle.arithmetic.specs.Fraction.{Fraction, _over_, times, plus, minus, divided}
+use Rattle.arithmetic.specs.Rounding.{divUp}
 use Rattle.arithmetic.proofs.FractionLaws.{plus-pos, times-pos}
+use Rattle.columns.specs.Column.{lastLimit}
+use Rattle.columns.proofs.ExactColumnHolds.{exact-column}
 use Rattle.sheet.specs.Ranges.{InRange}
 use Rattle.sheet.specs.Lines.{Formula, whole, sixTenths, glideOnly, formulaOf}
-use Rattle.sheet.specs.Column.{limits, lastLimit, columnBy, columnOf, flagOf}
 use Rattle.sheet.specs.Sheet.{linesOf, sheetOf}
 use Rattle.sheet.specs.declared.SheetAnswer.{SheetAnswer}
 use Rattle.sheet.specs.Acceptance.{RefusedExactlyWhen}
-use Rattle.sheet.proofs.FirstInTable.{FirstAt}
-use Rattle.sheet.proofs.ColumnLaws.{column-at, limit-found, column-in-table, flag-at-most-one, lines-column, lines-flag}
 use Rattle.sheet.proofs.AcceptanceHolds.{refused-exactly-when, sheet-promise}
-use Rattle.exact_area.specs.ExactArea.{exactGlide, speedTerm, massTerm, friction, exactSlide, halfWidth, wholeArea, exactBy, exactArea, exactColumn}
+use Rattle.sheet.proofs.LineLaws.{area-width, lines-column, lines-flag}
+use Rattle.exact_area.specs.ExactArea.{exactGlide, speedTerm, massTerm, friction, exactSlide, halfWidth, wholeArea, exactBy, exactArea, under, exactColumn}
 use Rattle.exact_area.specs.Accuracy.{AreaIsAccurate, ColumnIsAccurate, AboveLastLimitLess7, SheetIsAccurate}
 use Rattle.exact_area.proofs.Between.{low-bound, high-bound}
-use Rattle.exact_area.proofs.Width.{width}
-use Rattle.exact_area.proofs.ExactColumn.{under, under-true, unflagged, flagged}
+use Rattle.exact_area.proofs.FractionInBracket.{lies-in, meets-at-most-one}
 
 slide-pos : (m v : ℕ) → 0 < m → 0 < exactSlide m v .den
 unfolding exactSlide speedTerm massTerm friction minus divided times
@@ -55,65 +55,37 @@ exact-pos w m v h =
     (in-pos (formulaOf w) (halfWidth w) exactGlide (exactSlide m v) (width-pos w) glide-pos (slide-pos m v h))
 
 lines-area : (w m v : ℕ) → InRange w m v → AreaIsAccurate w m v (linesOf w m v)
+unfolding divUp
 lines-area w m v r =
     record {
       denominator-above-zero = exact-pos w m v (omega arith);
       low-at-most = low-bound w m v (omega arith);
       high-at-least = high-bound w m v;
-      width = width w m v r .0;
-      width-to-8-metres = width w m v r .1;
+      width = omega (arith, area-width w m v r);
+      width-to-8-metres = λ h. omega (arith, area-width w m v r);
     }
 
-columns : (w m v : ℕ) → InRange w m v → linesOf w m v .area .high ≤ lastLimit → ColumnIsAccurate w m v (linesOf w m v)
-unfolding exactColumn columnOf
-columns w m v r fits =
-    record {
-      exact-in-table = column-in-table (under x) (under-true x low high (a .denominator-above-zero) (a .low-at-most) (a .high-at-least) lastLimit fits);
-      flag-zero-or-one = rw (lines-flag w m v) (flag-at-most-one low (columnBy (leb high)));
-      unflagged = λ e. unflagged x low high (a .denominator-above-zero) (a .low-at-most) (a .high-at-least) (a .width) k f (flag-at e) ∙ sym (lines-column w m v ∙ at-column);
-      flagged = λ e. rw (lines-column w m v, at-column) (flagged x low high (a .denominator-above-zero) (a .low-at-most) (a .high-at-least) (a .width) k f (flag-at e));
-    }
-  where
-    x : Fraction
-    x = exactArea w m v
-
-    low : ℕ
-    low = linesOf w m v .area .low
-
-    high : ℕ
-    high = linesOf w m v .area .high
-
-    a : AreaIsAccurate w m v (linesOf w m v)
-    a = lines-area w m v r
-
-    found : (k : ℕ) × FirstAt (leb high) limits k
-    found = limit-found high fits
-
-    k : ℕ
-    k = found .0
-
-    f : FirstAt (leb high) limits k
-    f = found .1
-
-    at-column : columnBy (leb high) ≡ suc k
-    at-column = column-at (leb high) k f
-
-    flag-at : {n : ℕ} → linesOf w m v .flag ≡ n → flagOf low (suc k) ≡ n
-    flag-at e = rw at-column at (sym (lines-flag w m v) ∙ e)
+lines-columns : (w m v : ℕ) → InRange w m v → linesOf w m v .area .high ≤ lastLimit → ColumnIsAccurate w m v (linesOf w m v)
+unfolding exactColumn
+lines-columns w m v r fits =
+    let accurate = lines-area w m v r in
+    let area = linesOf w m v .area in
+    rw (lines-flag w m v, lines-column w m v)
+    (exact-column area (under (exactArea w m v)) (lies-in (exactArea w m v) area (accurate .denominator-above-zero) (accurate .low-at-most) (accurate .high-at-least)) (meets-at-most-one area (accurate .width)) fits)
 
 pub sheet-is-accurate : (w m v : ℕ) → SheetIsAccurate w m v
 sheet-is-accurate w m v =
     record {
-      area = λ e. rw (given e) (lines-area w m v (refusal .none .0 e .0));
-      column = λ e. rw (given e) (columns w m v (refusal .none .0 e .0) (refusal .none .0 e .1));
+      area = λ e. rw (accepted e) (lines-area w m v (refusal .none .0 e .0));
+      column = λ e. rw (accepted e) (lines-columns w m v (refusal .none .0 e .0) (refusal .none .0 e .1));
       refusal-4 = λ e. four (refusal .four .0 e);
     }
   where
     refusal : RefusedExactlyWhen w m v
     refusal = refused-exactly-when w m v
 
-    given : sheetOf w m v .refusal ≡ 0 → sheetOf w m v .sheet ≡ linesOf w m v
-    given e = ap (λ (a : SheetAnswer). a .sheet) (sheet-promise w m v .if-accepted e)
+    accepted : sheetOf w m v .refusal ≡ 0 → sheetOf w m v .sheet ≡ linesOf w m v
+    accepted e = ap (λ (a : SheetAnswer). a .sheet) (sheet-promise w m v .if-accepted e)
 
     four : InRange w m v × (lastLimit < linesOf w m v .area .high) → AboveLastLimitLess7 w m v
     four h =

@@ -1,59 +1,55 @@
 -- The exact area lies between the low and the high one: low and high go through the formula by the laws of fractions, and nothing is multiplied out.
-use Prim.Native.Nat.{ℕ, _+_, _-_, _*_, _/_, _^_, _≤_, _<_}
+use Prim.Native.Nat.{ℕ, _-_, _*_, _^_, _≤_, _<_}
 use native.Mathlib.Omega.{arith}
 use lib.Dec.{lit≤, lit<}
-use Rattle.arithmetic.specs.Rounding.{divUp}
 use Rattle.arithmetic.specs.Fraction.{Fraction, _over_, plus, minus, times, divided, _⊑_}
-use Rattle.sheet.specs.Lines.{Formula, whole, sixTenths, glideOnly, formulaOf, runOf, savingOf, slideOf, totalAt, totalOf, areaNum, areaDen, areaOf}
-use Rattle.sheet.specs.Sheet.{linesOf, withLines}
-use Rattle.sheet.proofs.Growth.{denominator-pos}
+use Rattle.sheet.specs.Lines.{Formula, whole, sixTenths, glideOnly, fullWidth, glideOf, runRate, runScale, runOf, savingOf, slideOf, formulaOf, areaDen}
+use Rattle.sheet.specs.Sheet.{linesOf}
+use Rattle.sheet.proofs.FormulaLaws.{denominator-pos}
+use Rattle.sheet.proofs.LineLaws.{run-rounded-down, run-rounded-up, saving-rounded-down, saving-rounded-up, areaNumAt, area-rounded-down, area-rounded-up}
 use Rattle.exact_area.specs.ExactArea.{exactGlide, speedTerm, massTerm, friction, exactSlide, halfWidth, wholeArea, exactBy, exactArea}
 use Rattle.arithmetic.proofs.FractionLaws.{refl-le, trans-le, plus-mono, times-mono, divided-mono, minus-mono}
-use Rattle.arithmetic.proofs.RoundingLaws.{down-low, up-high, rate}
+use Rattle.arithmetic.proofs.RoundingLaws.{rate}
 
 -- a length of the sheet, in micrometres
 abbrev micro : ℕ → Fraction
 micro n = n over 1000000
 
-glide-low : micro 2570666 ⊑ exactGlide
+glide-low : micro (glideOf .low) ⊑ exactGlide
 unfolding exactGlide divided
 glide-low = lit≤ tt
 
-glide-high : exactGlide ⊑ micro 2570667
+glide-high : exactGlide ⊑ micro (glideOf .high)
 unfolding exactGlide divided
 glide-high = lit≤ tt
 
--- The run's exact rate: 1.926617433.. µm for each (cm/s)². Over a variable for the quotient, and with nothing else in reach:
--- omega takes `/ 1000000000` apart, and multiplies what it reads until its numbers pass 38 digits.
+-- The run's exact rate, in micrometres for each (cm/s)², is 532448828795² / (14715 × 10¹⁹). Over a variable for the line, and with nothing else in
+-- reach: omega multiplies what it reads until its numbers pass 38 digits.
 run-low-at : (x v : ℕ) → x * (14715 * 10 ^ 19) ≤ v * v * (532448828795 * 532448828795) → times (micro x) friction ⊑ speedTerm v
 unfolding friction speedTerm times
 run-low-at x v h = omega arith
 
 run-low : (v : ℕ) → times (micro (runOf v .low)) friction ⊑ speedTerm v
-unfolding runOf
 run-low v =
-    run-low-at (v * v * 1926617433 / 1000000000) v
-    (rate _ (v * v) 1000000000 1926617433 (532448828795 * 532448828795) (14715 * 10 ^ 19) (lit< tt)
-    (down-low (v * v * 1926617433) 1000000000) (lit≤ tt))
+    run-low-at (runOf v .low) v
+    (rate _ (v * v) runScale (runRate .low) (532448828795 * 532448828795) (14715 * 10 ^ 19) (lit< tt) (run-rounded-down v) (lit≤ tt))
 
 run-high-at : (x v : ℕ) → v * v * (532448828795 * 532448828795) ≤ x * (14715 * 10 ^ 19) → speedTerm v ⊑ times (micro x) friction
 unfolding friction speedTerm times
 run-high-at x v h = omega arith
 
 run-high : (v : ℕ) → speedTerm v ⊑ times (micro (runOf v .high)) friction
-unfolding runOf
 run-high v =
-    run-high-at (divUp (v * v * 1926617434) 1000000000) v
-    (rate (v * v) _ 1926617434 1000000000 (14715 * 10 ^ 19) (532448828795 * 532448828795) (lit< tt)
-    (up-high (v * v * 1926617434) 1000000000 (lit< tt)) (lit≤ tt))
+    run-high-at (runOf v .high) v
+    (rate (v * v) _ (runRate .high) runScale (14715 * 10 ^ 19) (532448828795 * 532448828795) (lit< tt) (run-rounded-up v) (lit≤ tt))
 
 saving-low : (m : ℕ) → times (micro (savingOf m .low)) friction ⊑ massTerm m
-unfolding savingOf friction massTerm times divided
-saving-low m = omega (arith, down-low 39415562351 m)
+unfolding friction massTerm times divided
+saving-low m = omega (arith, saving-rounded-down m)
 
 saving-high : (m : ℕ) → 0 < m → massTerm m ⊑ times (micro (savingOf m .high)) friction
-unfolding savingOf friction massTerm times divided
-saving-high m h = omega (arith, up-high 39415562352 m h)
+unfolding friction massTerm times divided
+saving-high m h = omega (arith, saving-rounded-up m h)
 
 -- the slide of a run and a saving of the sheet
 slideAt : ℕ → ℕ → Fraction
@@ -86,11 +82,11 @@ slide-high m v =
     (divided-mono _ _ _ _ (minus-mono _ _ _ _ (run-high v) (saving-low m)) (refl-le friction))
     (slide-to (runOf v .high) (savingOf m .low))
 
-width-from : (w : ℕ) → (w + 600) over 2000 ⊑ halfWidth w
+width-from : (w : ℕ) → fullWidth w over 2000 ⊑ halfWidth w
 unfolding halfWidth plus divided
 width-from w = omega arith
 
-width-to : (w : ℕ) → halfWidth w ⊑ (w + 600) over 2000
+width-to : (w : ℕ) → halfWidth w ⊑ fullWidth w over 2000
 unfolding halfWidth plus divided
 width-to w = omega arith
 
@@ -117,7 +113,7 @@ areaAt : Formula → ℕ → ℕ → ℕ → Fraction
 areaAt f a glide slide = times (10000 over 1) (exactBy f (a over 2000) (micro glide) (micro slide))
 
 line6 : Formula → ℕ → ℕ → ℕ → Fraction
-line6 f a glide slide = areaNum f a glide (totalAt a glide slide) over areaDen f
+line6 f a glide slide = areaNumAt f a glide slide over areaDen f
 
 line6-from : (f : Formula) (a g s : ℕ) → line6 f a g s ⊑ areaAt f a g s
 unfolding line6 areaAt exactBy wholeArea plus times
@@ -138,48 +134,39 @@ areaAt-pos sixTenths a g s = lit< tt
 areaAt-pos glideOnly a g s = lit< tt
 
 -- The accuracy of line 6: the low area is at most the exact one, and the high one at least.
-pub low-bound : (w m v : ℕ) → 0 < m → linesOf w m v .area .low over 1 ⊑ exactArea w m v
-unfolding linesOf withLines areaOf totalOf exactArea areaAt line6
-low-bound w m v h =
-    trans-le (n / areaDen f over 1) (line6 f a 2570666 s) (exactArea w m v) (denominator-pos f)
-    (omega (arith, down-low n (areaDen f)))
-    (trans-le (line6 f a 2570666 s) (areaAt f a 2570666 s) (exactArea w m v) (areaAt-pos f a 2570666 s)
-    (line6-from f a 2570666 s)
-    (times-mono (10000 over 1) _ (10000 over 1) _ (refl-le (10000 over 1))
-    (area-mono f (a over 2000) (micro 2570666) (micro s) (halfWidth w) exactGlide (exactSlide m v) (width-from w) glide-low
-    (slide-low m v h))))
-  where
-    f : Formula
-    f = formulaOf w
+module _ (w m v : ℕ) where
+  abbrev f : Formula
+  f = formulaOf w
 
-    a : ℕ
-    a = w + 600
+  abbrev a : ℕ
+  a = fullWidth w
 
-    s : ℕ
-    s = slideOf (runOf v) (savingOf m) .low
+  pub low-bound : 0 < m → linesOf w m v .area .low over 1 ⊑ exactArea w m v
+  unfolding exactArea areaAt line6
+  low-bound h =
+      trans-le (linesOf w m v .area .low over 1) (line6 f a g s) (exactArea w m v) (denominator-pos f) (omega (arith, area-rounded-down w m v))
+      (trans-le (line6 f a g s) (areaAt f a g s) (exactArea w m v) (areaAt-pos f a g s) (line6-from f a g s)
+      (times-mono (10000 over 1) _ (10000 over 1) _ (refl-le (10000 over 1))
+      (area-mono f (a over 2000) (micro g) (micro s) (halfWidth w) exactGlide (exactSlide m v) (width-from w) glide-low (slide-low m v h))))
+    where
+      g : ℕ
+      g = glideOf .low
 
-    n : ℕ
-    n = areaNum f a 2570666 (totalAt a 2570666 s)
+      s : ℕ
+      s = slideOf (runOf v) (savingOf m) .low
 
-pub high-bound : (w m v : ℕ) → exactArea w m v ⊑ linesOf w m v .area .high over 1
-unfolding linesOf withLines areaOf totalOf exactArea areaAt line6
-high-bound w m v =
-    trans-le (exactArea w m v) (line6 f a 2570667 s) (divUp n (areaDen f) over 1) (denominator-pos f)
-    (trans-le (exactArea w m v) (areaAt f a 2570667 s) (line6 f a 2570667 s) (areaAt-pos f a 2570667 s)
-    (times-mono (10000 over 1) _ (10000 over 1) _ (refl-le (10000 over 1))
-    (area-mono f (halfWidth w) exactGlide (exactSlide m v) (a over 2000) (micro 2570667) (micro s) (width-to w) glide-high
-    (slide-high m v)))
-    (line6-to f a 2570667 s))
-    (omega (arith, up-high n (areaDen f) (denominator-pos f)))
-  where
-    f : Formula
-    f = formulaOf w
+  pub high-bound : exactArea w m v ⊑ linesOf w m v .area .high over 1
+  unfolding exactArea areaAt line6
+  high-bound =
+      trans-le (exactArea w m v) (line6 f a g s) (linesOf w m v .area .high over 1) (denominator-pos f)
+      (trans-le (exactArea w m v) (areaAt f a g s) (line6 f a g s) (areaAt-pos f a g s)
+      (times-mono (10000 over 1) _ (10000 over 1) _ (refl-le (10000 over 1))
+      (area-mono f (halfWidth w) exactGlide (exactSlide m v) (a over 2000) (micro g) (micro s) (width-to w) glide-high (slide-high m v)))
+      (line6-to f a g s))
+      (omega (arith, area-rounded-up w m v))
+    where
+      g : ℕ
+      g = glideOf .high
 
-    a : ℕ
-    a = w + 600
-
-    s : ℕ
-    s = slideOf (runOf v) (savingOf m) .high
-
-    n : ℕ
-    n = areaNum f a 2570667 (totalAt a 2570667 s)
+      s : ℕ
+      s = slideOf (runOf v) (savingOf m) .high

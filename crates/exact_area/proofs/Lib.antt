@@ -1,4 +1,3 @@
 pub mod Between
-pub mod Width
-pub mod ExactColumn
+pub mod FractionInBracket
 pub mod AccuracyHolds

@@ -1,14 +1,15 @@
 -- Demand 3 on areas and columns: what holds of every accepted aircraft.
 use mathlib.Core.Path.{_≡_}
-use mathlib.Core.Logic.{_⊎_}
 use Prim.Native.Nat.{ℕ, _+_, _-_, _*_, _≤_, _<_}
 use Rattle.arithmetic.specs.Fraction.{_over_, _⊑_}
+use Rattle.columns.specs.Column.{lastLimit}
+use Rattle.columns.specs.ExactColumn.{ColumnAgrees}
 use Rattle.sheet.specs.declared.Sheet.{Sheet}
-use Rattle.sheet.specs.Column.{lastLimit}
 use Rattle.sheet.specs.Sheet.{sheetOf}
 use Rattle.exact_area.specs.ExactArea.{exactArea, exactColumn}
 
--- "the exact fraction lies between the low and the high area, at most 7 cm² apart (2 up to 8 m)"
+-- "The exact fraction lies from the low area to the high area, which differ by at most 7 square centimetres, and by at most 2 where the aircraft's
+-- dimension is 8 metres or less."
 pub record AreaIsAccurate (w m v : ℕ) (s : Sheet) : Type 0 where
   pub denominator-above-zero : 0 < exactArea w m v .den
   pub low-at-most : s .area .low over 1 ⊑ exactArea w m v
@@ -16,12 +17,10 @@ pub record AreaIsAccurate (w m v : ℕ) (s : Sheet) : Type 0 where
   pub width : s .area .high ≤ s .area .low + 7
   pub width-to-8-metres : w ≤ 8000 → s .area .high ≤ s .area .low + 2
 
--- "every accepted sheet has one"; "unflagged, the sheet's column is the exact one"; "flagged, the sheet's column is the exact one or the next higher"
-pub record ColumnIsAccurate (w m v : ℕ) (s : Sheet) : Type 0 where
-  pub exact-in-table : (1 ≤ exactColumn w m v) × (exactColumn w m v ≤ 5)
-  pub flag-zero-or-one : s .flag ≤ 1
-  pub unflagged : s .flag ≡ 0 → exactColumn w m v ≡ s .column
-  pub flagged : s .flag ≡ 1 → (exactColumn w m v ≡ s .column) ⊎ (exactColumn w m v + 1 ≡ s .column)
+-- "every accepted sheet has one"; "When the sheet is unflagged, the two columns are equal", "When it is flagged, the sheet's column is the exact one or the
+-- next higher"
+abbrev pub ColumnIsAccurate : ℕ → ℕ → ℕ → Sheet → Type 0
+ColumnIsAccurate w m v s = ColumnAgrees (exactColumn w m v) (s .column) (s .flag)
 
 -- "When 4 is given, the exact area is more than the last limit less 7 square centimetres."
 abbrev pub AboveLastLimitLess7 : ℕ → ℕ → ℕ → Type 0

@@ -1,9 +1,10 @@
 -- The exact area, "as a fraction" in metres, m/s and kg, never rounded. Formulas (1) to (10) are those of chapter 4 of the EASA guideline (002).
+use mathlib.Core.Bool.{Bool}
 use Prim.Native.Nat.{ℕ, _*_}
 use lib.Dec.{leb}
 use Rattle.arithmetic.specs.Fraction.{Fraction, _over_, plus, minus, times, divided}
+use Rattle.columns.specs.Column.{columnBy}
 use Rattle.sheet.specs.Lines.{Formula, whole, sixTenths, glideOnly, formulaOf}
-use Rattle.sheet.specs.Column.{columnBy}
 
 -- "tan is 0.7002075382, cos is 0.8191520443 (35 degrees, ten places; these decimals are the definition)"
 abbrev pub tan : Fraction
@@ -55,6 +56,10 @@ exactBy glideOnly d glide slide =
 unfoldable pub exactArea : ℕ → ℕ → ℕ → Fraction
 exactArea w m v = times (10000 over 1) (exactBy (formulaOf w) (halfWidth w) exactGlide (exactSlide m v))
 
--- "The exact column is the first whose area limit is at least this fraction", "compared by cross products"
+-- a fraction is at most a limit, "compared by cross products"
+abbrev pub under : Fraction → ℕ → Bool
+under x limit = leb (x .num) (limit * x .den)
+
+-- "The exact column is the first whose area limit is at least this fraction"
 unfoldable pub exactColumn : ℕ → ℕ → ℕ → ℕ
-exactColumn w m v = columnBy (λ limit. leb (exactArea w m v .num) (limit * exactArea w m v .den))
+exactColumn w m v = columnBy (under (exactArea w m v))

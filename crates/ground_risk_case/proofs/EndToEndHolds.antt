@@ -15,11 +15,11 @@ use Rattle.arithmetic.specs.Refusals.{FirstToHold, OneOf}
 use Rattle.arithmetic.proofs.FractionLaws.{trans-le}
 use Rattle.arithmetic.proofs.RefusalLaws.{one-of-le, one-of-more, answered-one-of, none-refused}
 use Rattle.arithmetic.proofs.TestLaws.{cond-le}
-use Rattle.sheet.specs.Column.{lastLimit}
+use Rattle.columns.specs.Column.{lastLimit}
+use Rattle.columns.proofs.ColumnLaws.{column-max}
 use Rattle.sheet.specs.Sheet.{linesOf, sheetOf}
 use Rattle.sheet.specs.declared.SheetAnswer.{SheetAnswer}
-use Rattle.sheet.proofs.LineBounds.{column-max}
-use Rattle.sheet.proofs.ColumnLaws.{lines-column}
+use Rattle.sheet.proofs.LineLaws.{lines-column}
 use Rattle.sheet.proofs.AcceptanceHolds.{refused-exactly-when, sheet-promise}
 use Rattle.exact_area.specs.ExactArea.{exactArea}
 use Rattle.exact_area.specs.Accuracy.{AreaIsAccurate}

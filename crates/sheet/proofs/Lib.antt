@@ -1,10 +1,9 @@
-pub mod FirstInTable
+pub mod LineLaws
 pub mod LineBounds
-pub mod CountedColumn
-pub mod AreaTenths
-pub mod WaysOut
+pub mod FormulaLaws
+pub mod AreaTenthsLaws
+pub mod RangeLaws
 pub mod LinesMade
 pub mod AcceptanceHolds
-pub mod Growth
-pub mod ColumnLaws
+pub mod GrowthHolds
 pub mod PointsHold

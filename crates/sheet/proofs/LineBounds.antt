@@ -1,14 +1,11 @@
 -- Bounds of the sheet's lines over the accepted range: every number fits 64 bits.
-use Prim.Native.Nat.{ℕ, _-_, _≤_}
+use Prim.Native.Nat.{ℕ, _≤_}
 use native.Mathlib.Nat.{mul-le-mul, add-le-add}
 use native.Mathlib.Omega.{arith}
 use Rattle.arithmetic.specs.Rounding.{divUp}
-use lib.Dec.{leb}
 use Rattle.sheet.specs.Ranges.{dimensionMax, speedMax}
 use Rattle.sheet.specs.Bounds.{aMax, glideMax, slideMax, totalMax, AtMost}
 use Rattle.sheet.specs.Lines.{fullWidth, glideOf, runOf, savingOf, slideOf, totalAt, totalOf}
-use Rattle.sheet.specs.Column.{columnOf, columnBy, limits}
-use Rattle.sheet.proofs.FirstInTable.{first-max}
 
 run-max : (v : ℕ) → v ≤ speedMax → AtMost (runOf v) slideMax
 unfolding runOf divUp
@@ -27,8 +24,3 @@ total-max w m v hw hv = (
   total-at-max (fullWidth w) _ _ (omega arith) (omega arith) (slide-max m v hv .0),
   total-at-max (fullWidth w) _ _ (omega arith) (omega arith) (slide-max m v hv .1),
 )
-
--- there are five columns
-pub column-max : (high : ℕ) → columnOf high ≤ 5
-unfolding columnOf columnBy
-column-max high = first-max (leb high) limits 0

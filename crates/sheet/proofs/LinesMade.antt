@@ -1,23 +1,33 @@
 -- The lines as the code makes them, each from those before it: their bounds, and the answer that they make.
-use mathlib.Core.Path.{_≡_}
+use mathlib.Core.Path.{_≡_, refl, sym}
+use mathlib.Core.Bool.{cond}
 use Prim.Native.Nat.{ℕ, _≤_, _<_}
 use native.Mathlib.Omega.{arith}
 use borrow.Author.Tests.{lt-ltb, le-ltb}
-use Rattle.sheet.specs.Ranges.{dimensionMax, speedMax}
+use lib.Dec.{eqb}
+use Rattle.arithmetic.proofs.RefusalLaws.{FollowsFrom, way-out-after}
+use Rattle.columns.specs.Column.{lastLimit, columnAndFlagOf}
+use Rattle.columns.specs.declared.Bracket.{Bracket}
+use Rattle.columns.specs.declared.ColumnAndFlag.{ColumnAndFlag}
+use Rattle.sheet.specs.Ranges.{dimensionMax, speedMax, InRange}
 use Rattle.sheet.specs.Bounds.{glideMax, slideMax, totalMax, AtMost}
 use Rattle.sheet.specs.Lines.{fullWidth, glideOf, runOf, savingOf, slideOf, totalOf, formulaOf, areaOf}
-use Rattle.sheet.specs.Column.{lastLimit, columnOf, flagOf}
-use Rattle.sheet.specs.declared.Bracket.{Bracket}
 use Rattle.sheet.specs.declared.Sheet.{Sheet}
-use Rattle.sheet.specs.Sheet.{withLines, linesOf, refusedSheet, acceptedSheet, areaTested}
+use Rattle.sheet.specs.Sheet.{withLines, linesOf, refusedSheet, acceptedSheet, rangeTests, areaTests, sheetOf}
 use Rattle.sheet.proofs.LineBounds.{slide-max, total-max}
+use Rattle.sheet.proofs.RangeLaws.{range-passed}
 
--- the area's test
-area-refused : (s : Sheet) {area : Bracket} → area ≡ s .area → lastLimit < area .high → refusedSheet 4 ≡ areaTested s
-area-refused s e h = simp (← e, lt-ltb _ _ h)
+-- the area's test, after those of the ranges
+module _ (w m v : ℕ) (ranges : InRange w m v) where
+  way-out : (n : ℕ) → FollowsFrom (areaTests (linesOf w m v)) n (cond (eqb n 0) (acceptedSheet (linesOf w m v)) (refusedSheet n) ≡ sheetOf w m v)
+  unfolding sheetOf
+  way-out = way-out-after _ _ (rangeTests w m v) (areaTests (linesOf w m v)) refl (sym (range-passed w m v ranges)) refl refl
 
-area-given : {s t : Sheet} → s ≡ t → s .area .high ≤ lastLimit → acceptedSheet s ≡ areaTested t
-area-given e h = simp (← e, le-ltb _ _ h)
+  area-refused : {area : Bracket} → area ≡ linesOf w m v .area → lastLimit < area .high → refusedSheet 4 ≡ sheetOf w m v
+  area-refused e h = way-out 4 (rw e at (lt-ltb _ _ h))
+
+  area-accepted : {s : Sheet} → s ≡ linesOf w m v → s .area .high ≤ lastLimit → acceptedSheet s ≡ sheetOf w m v
+  area-accepted e h = rw e (way-out 0 (rw e at (le-ltb _ _ h)))
 
 pub glide-fits : {glide : Bracket} → glide ≡ glideOf → AtMost glide glideMax
 glide-fits g = rw g (omega arith)
@@ -30,12 +40,12 @@ module _ (m v : ℕ) {run saving slide : Bracket} (r : run ≡ runOf v) (k : sav
     pub total-fits : w ≤ dimensionMax → v ≤ speedMax → AtMost total totalMax
     total-fits hw hv = rw (t, g, s, r, k) (total-max w m v hw hv)
 
-    module _ {area : Bracket} (a : area ≡ areaOf (formulaOf w) (fullWidth w) glide total) where
-      pub refused-4 : lastLimit < area .high → refusedSheet 4 ≡ areaTested (linesOf w m v)
+    module _ {area : Bracket} (a : area ≡ areaOf (formulaOf w) (fullWidth w) glide total) (ranges : InRange w m v) where
+      pub refused-4 : lastLimit < area .high → refusedSheet 4 ≡ sheetOf w m v
       unfolding linesOf withLines
-      refused-4 = area-refused (linesOf w m v) {area = area} (cc)
+      refused-4 = area-refused w m v ranges {area = area} (cc)
 
-      pub given : {column flag : ℕ} → column ≡ columnOf (area .high) → flag ≡ flagOf (area .low) (columnOf (area .high)) → area .high ≤ lastLimit →
-          acceptedSheet (record { glide = glide; run = run; saving = saving; slide = slide; total = total; area = area; column = column; flag = flag }) ≡ areaTested (linesOf w m v)
+      pub accepted : {found : ColumnAndFlag} → found ≡ columnAndFlagOf area → area .high ≤ lastLimit →
+          acceptedSheet (record { glide = glide; run = run; saving = saving; slide = slide; total = total; area = area; column = found .column; flag = found .flag }) ≡ sheetOf w m v
       unfolding linesOf withLines
-      given c f = area-given {t = linesOf w m v} (cc)
+      accepted f = area-accepted w m v ranges (cc)

@@ -5,8 +5,8 @@ use mathlib.Core.Logic.{_↔_}
 use Prim.Native.Nat.{ℕ, _≤_, _<_}
 use Rattle.arithmetic.specs.Tests.{outside}
 use Rattle.arithmetic.specs.Refusals.{AnswerPromise}
+use Rattle.columns.specs.Column.{lastLimit}
 use Rattle.sheet.specs.Ranges.{dimensionMin, dimensionMax, massMin, massMax, speedMax, InRange}
-use Rattle.sheet.specs.Column.{lastLimit}
 use Rattle.sheet.specs.declared.SheetAnswer.{SheetAnswer}
 use Rattle.sheet.specs.Sheet.{linesOf, refusedSheet, acceptedSheet, sheetTests, sheetOf}
 

@@ -2,7 +2,7 @@
 use Prim.Native.Nat.{ℕ, _≤_}
 use Rattle.sheet.specs.Ranges.{dimensionMax}
 use Rattle.sheet.specs.Lines.{fullWidth, glideOf}
-use Rattle.sheet.specs.declared.Bracket.{Bracket}
+use Rattle.columns.specs.declared.Bracket.{Bracket}
 
 abbrev pub aMax : ℕ
 aMax = fullWidth dimensionMax

@@ -1,8 +1,8 @@
 pub mod Ranges
 pub mod Lines
-pub mod Column
 pub mod Sheet
 pub mod Bounds
+pub mod AreaTenths
 pub mod Acceptance
-pub mod Laws
+pub mod Growth
 pub mod Points

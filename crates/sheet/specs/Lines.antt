@@ -1,12 +1,9 @@
 -- Lines 1 to 6 of the sheet, "in whole numbers, each low and high. Lengths are micrometres"
 use mathlib.Core.Bool.{cond}
-use Prim.Native.Nat.{ℕ, _+_, _-_, _*_, _/_}
+use Prim.Native.Nat.{ℕ, _+_, _-_, _*_}
 use lib.Dec.{ltb}
-use Rattle.arithmetic.specs.Rounding.{divUp}
-use Rattle.sheet.specs.declared.Bracket.{Bracket}
-
-abbrev pub bracket : ℕ → ℕ → Bracket
-bracket low high = record { low = low; high = high }
+use Rattle.columns.specs.Bracket.{bracket, roundedOutward}
+use Rattle.columns.specs.declared.Bracket.{Bracket}
 
 -- "a is w + 600, in millimetres": twice D, the dimension and a person's width
 abbrev pub fullWidth : ℕ → ℕ
@@ -17,12 +14,21 @@ abbrev pub glideOf : Bracket
 glideOf = bracket 2570666 2570667
 
 -- "2. Run: v × v × 1,926,617,433 / 10⁹ rounded down; v × v × 1,926,617,434 / 10⁹ rounded up."
+abbrev pub runRate : Bracket
+runRate = bracket 1926617433 1926617434
+
+abbrev pub runScale : ℕ
+runScale = 1000000000
+
 unfoldable pub runOf : ℕ → Bracket
-runOf v = bracket (v * v * 1926617433 / 1000000000) (divUp (v * v * 1926617434) 1000000000)
+runOf v = roundedOutward (v * v * runRate .low) (v * v * runRate .high) runScale
 
 -- "3. Saving: 39,415,562,351 / m rounded down; 39,415,562,352 / m rounded up."
+abbrev pub savingTimesMass : Bracket
+savingTimesMass = bracket 39415562351 39415562352
+
 unfoldable pub savingOf : ℕ → Bracket
-savingOf m = bracket (39415562351 / m) (divUp 39415562352 m)
+savingOf m = roundedOutward (savingTimesMass .low) (savingTimesMass .high) m
 
 -- "4. Slide low: run low less saving high. Slide high: run high less saving low. Zero where negative."
 abbrev pub slideOf : Bracket → Bracket → Bracket
@@ -49,7 +55,7 @@ pub data Formula : Type 0 where
   sixTenths : Formula
   glideOnly : Formula
 
-abbrev pub formulaOf : ℕ → Formula
+unfoldable pub formulaOf : ℕ → Formula
 formulaOf w = cond (ltb wholeAbove w) whole (cond (ltb sixTenthsAbove w) sixTenths glideOnly)
 
 -- "2 × a × glide + 785 × a × a"
@@ -70,5 +76,4 @@ areaDen glideOnly = 200000
 
 unfoldable pub areaOf : Formula → ℕ → Bracket → Bracket → Bracket
 areaOf f a glide total =
-    bracket (areaNum f a (glide .low) (total .low) / areaDen f)
-    (divUp (areaNum f a (glide .high) (total .high)) (areaDen f))
+    roundedOutward (areaNum f a (glide .low) (total .low)) (areaNum f a (glide .high) (total .high)) (areaDen f)

@@ -26,8 +26,8 @@ pub record SheetPoint : Type 0 where
 abbrev pub SheetPointHolds : SheetPoint → Type 0
 SheetPointHolds p = areaFigures (p .w) (p .m) (p .v) ≡ p .figures
 
-abbrev given : ℕ → ℕ → ℕ → ℕ → ℕ → ℕ → SheetPoint
-given w m v low high column =
+abbrev accepted : ℕ → ℕ → ℕ → ℕ → ℕ → ℕ → SheetPoint
+accepted w m v low high column =
     record { w = w; m = m; v = v; figures = record { refusal = 0; low = low; high = high; column = column } }
 
 abbrev refused : ℕ → ℕ → ℕ → ℕ → SheetPoint
@@ -35,12 +35,12 @@ refused w m v n = record { w = w; m = m; v = v; figures = record { refusal = n; 
 
 abbrev pub sheetPoints : List SheetPoint
 sheetPoints =
-    given 50 50 0 18367 18368 1
-    ∷ given 1000 10000 2500 51178 51179 1
-    ∷ given 1001 10000 0 36766 36767 1
-    ∷ given 3000 25000 3500 592295 592296 2
-    ∷ given 8000 50000 0 480997 480999 2
-    ∷ given 8001 50000 0 801824 801825 3
+    accepted 50 50 0 18367 18368 1
+    ∷ accepted 1000 10000 2500 51178 51179 1
+    ∷ accepted 1001 10000 0 36766 36767 1
+    ∷ accepted 3000 25000 3500 592295 592296 2
+    ∷ accepted 8000 50000 0 480997 480999 2
+    ∷ accepted 8001 50000 0 801824 801825 3
     ∷ refused 49 0 0 1
     ∷ refused 100000 25000000 40000 4
     ∷ []

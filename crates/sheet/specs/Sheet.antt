@@ -4,10 +4,11 @@ use Prim.Native.Nat.{ℕ}
 use lib.Dec.{ltb}
 use Rattle.arithmetic.specs.Tests.{outside}
 use Rattle.arithmetic.specs.Refusals.{Test, _when_, answered}
+use Rattle.columns.specs.Bracket.{bracket}
+use Rattle.columns.specs.Column.{lastLimit, columnAndFlagOf}
+use Rattle.columns.specs.declared.Bracket.{Bracket}
 use Rattle.sheet.specs.Ranges.{dimensionMin, dimensionMax, massMin, massMax, speedMax}
-use Rattle.sheet.specs.Lines.{bracket, fullWidth, glideOf, runOf, savingOf, slideOf, totalOf, formulaOf, areaOf}
-use Rattle.sheet.specs.Column.{lastLimit, columnOf, flagOf}
-use Rattle.sheet.specs.declared.Bracket.{Bracket}
+use Rattle.sheet.specs.Lines.{fullWidth, glideOf, runOf, savingOf, slideOf, totalOf, formulaOf, areaOf}
 use Rattle.sheet.specs.declared.Sheet.{Sheet}
 use Rattle.sheet.specs.declared.SheetAnswer.{SheetAnswer}
 
@@ -21,8 +22,8 @@ withLines run saving slide total area =
       slide = slide;
       total = total;
       area = area;
-      column = columnOf (area .high);
-      flag = flagOf (area .low) (columnOf (area .high));
+      column = columnAndFlagOf area .column;
+      flag = columnAndFlagOf area .flag;
     }
 
 -- "all six lines are filled at every dimension"
@@ -67,9 +68,6 @@ areaTests s = 4 when ltb lastLimit (s .area .high) ∷ []
 -- "Tested in that order"
 abbrev pub sheetTests : ℕ → ℕ → ℕ → List Test
 sheetTests w m v = rangeTests w m v ++ areaTests (linesOf w m v)
-
-abbrev pub areaTested : Sheet → SheetAnswer
-areaTested s = answered (areaTests s) (acceptedSheet s) refusedSheet
 
 unfoldable pub sheetOf : ℕ → ℕ → ℕ → SheetAnswer
 sheetOf w m v = answered (sheetTests w m v) (acceptedSheet (linesOf w m v)) refusedSheet

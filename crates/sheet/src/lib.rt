@@ -1,13 +1,11 @@
 // The aircraft's sheet (document 01, "The aircraft and its area").
 ghost use mathlib.Core.Path.{_≡_};
-ghost use Prim.Native.Nat.{_≤_, _<_};
-ghost use Rattle.sheet.specs.Ranges.{dimensionMax, massMax, speedMax};
-ghost use Rattle.sheet.specs.Sheet.{linesOf, zeroSheet, refusedSheet, areaTested, sheetOf};
+ghost use Rattle.arithmetic.specs.Refusals.{firstRefusal};
+ghost use Rattle.sheet.specs.Ranges.{InRange};
+ghost use Rattle.sheet.specs.Sheet.{zeroSheet, refusedSheet, rangeTests, sheetOf};
 
-mod column;
 mod lines;
 
-use crate::column::column_and_flag;
 use crate::lines::PERSON_WIDTH;
 use crate::lines::area;
 use crate::lines::glide;
@@ -15,13 +13,9 @@ use crate::lines::run;
 use crate::lines::saving;
 use crate::lines::slide;
 use crate::lines::total;
-
-// A line of the sheet: a number at most the exact one, and a number at least the exact one.
-#[repr(C)]
-pub struct Bracket {
-    pub low: u64,
-    pub high: u64,
-}
+use columns::Bracket;
+use columns::LAST_LIMIT;
+use columns::column_and_flag;
 
 // Lines 1 to 6, the column and the flag. Lengths are in micrometres, the total (T of document 01) in thousandths of a square
 // millimetre, the area in square centimetres.
@@ -58,6 +52,19 @@ impl Sheet {
     // centimetres a second; the lowest speed is 0
     pub const SPEED_MAX: u32 = 40_000;
 
+    // Refusals 1 to 3: dimension, mass, speed out of range; 0 for none.
+    pub fn range_refusal(dimension: u32, mass: u32, speed: u32) -> u8
+        ensures { λ r. ⌜ r ≡ firstRefusal (rangeTests dimension mass speed) ⌝ }
+    {
+        if (dimension < Sheet::DIMENSION_MIN) | (Sheet::DIMENSION_MAX < dimension) {
+            return 1;
+        }
+        if (mass < Sheet::MASS_MIN) | (Sheet::MASS_MAX < mass) {
+            return 2;
+        }
+        if Sheet::SPEED_MAX < speed { 3 } else { 0 }
+    }
+
     // The sheet of a refused aircraft.
     pub fn refused() -> Sheet
         ensures { λ r. ⌜ r ≡ zeroSheet ⌝ }
@@ -85,8 +92,8 @@ fn refused_with(refusal: u8) -> SheetAnswer
 
 // The sheet of an aircraft within its ranges, or refusal 4.
 fn sheet_in_range(dimension: u64, mass: u64, speed: u64) -> SheetAnswer
-    requires { ⌜ (dimension ≤ dimensionMax) × (0 < mass) × (mass ≤ massMax) × (speed ≤ speedMax) ⌝ }
-    ensures { λ r. ⌜ r ≡ areaTested (linesOf dimension mass speed) ⌝ }
+    requires { ⌜ InRange dimension mass speed ⌝ }
+    ensures { λ r. ⌜ r ≡ sheetOf dimension mass speed ⌝ }
 {
     let glide = glide();
     let run = run(speed);
@@ -94,7 +101,7 @@ fn sheet_in_range(dimension: u64, mass: u64, speed: u64) -> SheetAnswer
     let slide = slide(run, saving);
     let total = total(dimension + PERSON_WIDTH, glide, slide);
     let area = area(dimension, glide, total);
-    if column::LAST_LIMIT < area.high {
+    if LAST_LIMIT < area.high {
         return refused_with(4);
     }
     let found = column_and_flag(area);
@@ -115,14 +122,9 @@ fn sheet_in_range(dimension: u64, mass: u64, speed: u64) -> SheetAnswer
 pub fn sheet_of(dimension: u32, mass: u32, speed: u32) -> SheetAnswer
     ensures { λ r. ⌜ r ≡ sheetOf dimension mass speed ⌝ }
 {
-    if (dimension < Sheet::DIMENSION_MIN) | (Sheet::DIMENSION_MAX < dimension) {
-        return refused_with(1);
-    }
-    if (mass < Sheet::MASS_MIN) | (Sheet::MASS_MAX < mass) {
-        return refused_with(2);
-    }
-    if Sheet::SPEED_MAX < speed {
-        return refused_with(3);
+    let refusal = Sheet::range_refusal(dimension, mass, speed);
+    if refusal != 0 {
+        return refused_with(refusal);
     }
     sheet_in_range(dimension as u64, mass as u64, speed as u64)
 }

@@ -1,14 +1,14 @@
 // Lines 1 to 6 of the sheet. `a` is document 01's a, the full width: the dimension and a person's width.
 ghost use mathlib.Core.Path.{_≡_};
 ghost use mathlib.Core.Bool.{cond};
-ghost use Prim.Native.Nat.{_+_, _/_, _^_, _≤_, _<_};
-ghost use lib.Dec.{ltb};
-ghost use Rattle.arithmetic.specs.Rounding.{divUp};
+ghost use Prim.Native.Nat.{_+_, _^_, _≤_, _<_};
 ghost use Rattle.sheet.specs.Ranges.{dimensionMax, speedMax};
+ghost use Rattle.columns.specs.Bracket.{roundedOutward};
 ghost use Rattle.sheet.specs.Bounds.{aMax, glideMax, slideMax, totalMax, AtMost};
-ghost use Rattle.sheet.specs.Lines.{bracket, fullWidth, glideOf, runOf, savingOf, slideOf, totalAt, totalOf, wholeAbove, sixTenthsAbove, formulaOf, areaOf};
-use crate::Bracket;
+ghost use Rattle.sheet.specs.Lines.{fullWidth, glideOf, runOf, savingOf, slideOf, totalAt, totalOf, formulaOf, areaOf};
+ghost use Rattle.sheet.specs.AreaTenths.{areaRule};
 use arithmetic::difference_or_zero;
+use columns::Bracket;
 
 // Above the first dimension the whole area formula is taken, above the second six tenths of it; in mm.
 const WHOLE_ABOVE: u64 = 8_000;
@@ -30,7 +30,7 @@ pub(crate) fn glide() -> Bracket
 // A numerator's two ends over one denominator, the low one rounded down and the high one up.
 fn rounded(low: u64, high: u64, denominator: u64) -> Bracket
     requires { ⌜ (0 < denominator) × (high + denominator < 2 ^ 64) ⌝ }
-    ensures { λ r. ⌜ r ≡ bracket (low / denominator) (divUp high denominator) ⌝ }
+    ensures { λ r. ⌜ r ≡ roundedOutward low high denominator ⌝ }
 {
     let down = low / denominator;
     let up = (high + (denominator - 1)) / denominator;
@@ -84,27 +84,43 @@ pub(crate) fn total(a: u64, glide: Bracket, slide: Bracket) -> Bracket
     Bracket { low, high }
 }
 
-// Line 6 is so many tenths of a total, over 100,000: ten where the whole formula is taken, and five, a half, without slide.
-fn area_tenths(dimension: u64) -> u64
-    ensures { λ r. ⌜ r ≡ cond (ltb wholeAbove dimension) 10 (cond (ltb sixTenthsAbove dimension) 6 5) ⌝ }
-    ensures { λ r. ⌜ r ≤ 10 ⌝ }
+// How the code takes line 6: so many tenths of a total over 100,000, and whether the slide counts in that total.
+struct AreaRule {
+    tenths: u64,
+    with_slide: bool,
+}
+
+fn area_rule(dimension: u64) -> AreaRule
+    ensures { λ r. ⌜ r ≡ areaRule (formulaOf dimension) ⌝ }
 {
     if WHOLE_ABOVE < dimension {
-        return 10;
+        return AreaRule {
+            tenths: 10,
+            with_slide: true,
+        };
     }
-    if SIX_TENTHS_ABOVE < dimension { 6 } else { 5 }
+    if SIX_TENTHS_ABOVE < dimension {
+        return AreaRule {
+            tenths: 6,
+            with_slide: true,
+        };
+    }
+    AreaRule {
+        tenths: 5,
+        with_slide: false,
+    }
 }
 
 // The total of which these tenths are. With the glide in the slide's place it is the numerator without slide, 2 × a × glide + 785 × a × a.
-fn area_total(dimension: u64, glide: Bracket, line5: Bracket) -> Bracket
-    requires { ⌜ (dimension ≤ dimensionMax) × AtMost glide glideMax × AtMost line5 totalMax ⌝ }
-    ensures { λ r. ⌜ r ≡ cond (ltb sixTenthsAbove dimension) line5 (totalOf (fullWidth dimension) glide glide) ⌝ }
+fn area_total(with_slide: bool, a: u64, glide: Bracket, line5: Bracket) -> Bracket
+    requires { ⌜ (a ≤ aMax) × AtMost glide glideMax × AtMost line5 totalMax ⌝ }
+    ensures { λ r. ⌜ r ≡ cond «with_slide» line5 (totalOf a glide glide) ⌝ }
     ensures { λ r. ⌜ AtMost r totalMax ⌝ }
 {
-    if SIX_TENTHS_ABOVE < dimension {
+    if with_slide {
         return line5;
     }
-    total(dimension + PERSON_WIDTH, glide, glide)
+    total(a, glide, glide)
 }
 
 // The three formulas as one, so that they share two divisions and the dimension chooses numbers, not code. A tenth over 100,000 is one over a million.
@@ -112,7 +128,7 @@ pub(crate) fn area(dimension: u64, glide: Bracket, total: Bracket) -> Bracket
     requires { ⌜ (dimension ≤ dimensionMax) × AtMost glide glideMax × AtMost total totalMax ⌝ }
     ensures { λ r. ⌜ r ≡ areaOf (formulaOf dimension) (fullWidth dimension) glide total ⌝ }
 {
-    let tenths = area_tenths(dimension);
-    let taken = area_total(dimension, glide, total);
-    rounded(tenths * taken.low, tenths * taken.high, 1_000_000)
+    let rule = area_rule(dimension);
+    let taken = area_total(rule.with_slide, dimension + PERSON_WIDTH, glide, total);
+    rounded(rule.tenths * taken.low, rule.tenths * taken.high, 1_000_000)
 }

@@ -1,7 +1,7 @@
 -- `sheet_in_range` gives the sheet of an aircraft within its ranges, or refusal 4.
 use mathlib.Core.Path.{_∙_}
 use native.Mathlib.Omega.{arith}
-use Rattle.sheet.proofs.LinesMade.{glide-fits, slide-fits, total-fits, refused-4, given}
+use Rattle.sheet.proofs.LinesMade.{glide-fits, slide-fits, total-fits, refused-4, accepted}
 use borrow.Author.Needs.{needs}
 use Rattle.sheet.proofs.sheet_in_range.Statement.{statement}
 use Rattle.sheet.proofs.sheet_in_range.Tie as tie
@@ -23,19 +23,25 @@ add-total c = search needs
 
 total-requires : tie.Need-total-requires
 total-requires c κs =
-    let args = c .before .before .before .before .args in (
+    let at-saving = c .before in
+    let at-run = at-saving .before in
+    let at-glide = at-run .before in
+    let args = at-glide .before .args in (
       omega arith,
-      glide-fits (c .before .before .before .glide .ensures),
-      slide-fits (args .mass) (args .speed) (c .before .before .run .ensures) (c .before .saving .ensures) (c .slide .ensures) (omega arith),
+      glide-fits (at-glide .glide .ensures),
+      slide-fits (args .mass) (args .speed) (at-run .run .ensures) (at-saving .saving .ensures) (c .slide .ensures) (omega arith),
     )
 
 area-requires : tie.Need-area-requires
 area-requires c κs =
-    let args = c .before .before .before .before .before .args in
-    let glide-is = c .before .before .before .before .glide .ensures in (
+    let at-slide = c .before in
+    let at-saving = at-slide .before in
+    let at-run = at-saving .before in
+    let at-glide = at-run .before in
+    let args = at-glide .before .args in (
       omega arith,
-      glide-fits glide-is,
-      total-fits (args .mass) (args .speed) (c .before .before .before .run .ensures) (c .before .before .saving .ensures) (c .before .slide .ensures) (args .dimension) glide-is (c .total .ensures) (omega arith) (omega arith),
+      glide-fits (at-glide .glide .ensures),
+      total-fits (args .mass) (args .speed) (at-run .run .ensures) (at-saving .saving .ensures) (at-slide .slide .ensures) (args .dimension) (at-glide .glide .ensures) (c .total .ensures) (omega arith) (omega arith),
     )
 
 refused-with-requires : tie.Need-refused-with-requires
@@ -43,21 +49,32 @@ refused-with-requires c κs = search needs
 
 returns : tie.Need-returns
 returns c =
-    let at-total = c .before .before .before .before in
-    let at-saving = at-total .before .before in
-    let args = at-saving .before .before .before .args in
-    c .refused-with .ensures
-    ∙ refused-4 (args .mass) (args .speed) (at-saving .before .run .ensures) (at-saving .saving .ensures) (at-total .before .slide .ensures) (args .dimension) (at-saving .before .before .glide .ensures) (at-total .total .ensures) (c .before .before .before .area .ensures) (c .before .if1 .taken)
+    let tested = c .before in
+    let at-area = tested .before .before in
+    let at-total = at-area .before in
+    let at-slide = at-total .before in
+    let at-saving = at-slide .before in
+    let at-run = at-saving .before in
+    let at-glide = at-run .before in
+    let start = at-glide .before in
+    let args = start .args in
+    c .refused-with .ensures ∙ refused-4 (args .mass) (args .speed) (at-run .run .ensures) (at-saving .saving .ensures) (at-slide .slide .ensures) (args .dimension) (at-glide .glide .ensures) (at-total .total .ensures) (at-area .area .ensures) (start .pre) (tested .if1 .taken)
 
 column-and-flag-requires : tie.Need-column-and-flag-requires
-column-and-flag-requires c κs = c .if1 .left
+column-and-flag-requires c κs = search needs
 
 returns-2 : tie.Need-returns-2
 returns-2 c =
-    let at-total = c .before .before .before .before in
-    let at-saving = at-total .before .before in
-    let args = at-saving .before .before .before .args in
-    given (args .mass) (args .speed) (at-saving .before .run .ensures) (at-saving .saving .ensures) (at-total .before .slide .ensures) (args .dimension) (at-saving .before .before .glide .ensures) (at-total .total .ensures) (c .before .before .before .area .ensures) (c .column-and-flag .ensures .0) (c .column-and-flag .ensures .1) (c .before .if1 .left)
+    let tested = c .before in
+    let at-area = tested .before .before in
+    let at-total = at-area .before in
+    let at-slide = at-total .before in
+    let at-saving = at-slide .before in
+    let at-run = at-saving .before in
+    let at-glide = at-run .before in
+    let start = at-glide .before in
+    let args = start .args in
+    accepted (args .mass) (args .speed) (at-run .run .ensures) (at-saving .saving .ensures) (at-slide .slide .ensures) (args .dimension) (at-glide .glide .ensures) (at-total .total .ensures) (at-area .area .ensures) (start .pre) (c .column-and-flag .ensures) (tested .if1 .left)
 
 pub sheet-in-range-spec : {M : Type 1} → statement M
 sheet-in-range-spec =

@@ -1,6 +1,6 @@
 -- `slide` gives line 4.
 use mathlib.Core.Path.{ap₂}
-use Rattle.sheet.specs.Lines.{bracket}
+use Rattle.columns.specs.Bracket.{bracket}
 use borrow.Author.Needs.{needs}
 use Rattle.sheet.proofs.lines.slide.Statement.{statement}
 use Rattle.sheet.proofs.lines.slide.Tie as tie

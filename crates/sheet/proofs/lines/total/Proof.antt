@@ -1,6 +1,7 @@
 -- `total` gives line 5.
 use mathlib.Core.Path.{ap₂}
-use Rattle.sheet.specs.Lines.{bracket, totalOf}
+use Rattle.columns.specs.Bracket.{bracket}
+use Rattle.sheet.specs.Lines.{totalOf}
 use borrow.Author.Needs.{needs}
 use Rattle.sheet.proofs.lines.total.Statement.{statement}
 use Rattle.sheet.proofs.lines.total.Tie as tie

@@ -1,13 +1,15 @@
 -- `column_and_flag` passes the limits below the high area.
-use mathlib.Core.Path.{_≡_, refl, ap, _∙_}
+use mathlib.Core.Path.{_≡_, refl, ap, ap₂, _∙_}
 use mathlib.Core.Logic.{⊎-elim}
 use Prim.Native.Nat.{ℕ, _+_, _-_, _≤_}
 use native.Mathlib.Omega.{arith}
 use lib.Dec.{ltb}
 use mir.Val.{boolByte}
-use Rattle.sheet.proofs.CountedColumn.{columnAfter, flaggedBelow, limit-below, limit-not-below, counted}
-use Rattle.sheet.proofs.column.column_and_flag.Statement.{statement}
-use Rattle.sheet.proofs.column.column_and_flag.Tie as tie
+use Rattle.columns.specs.Column.{columnAndFlag, flagOf}
+use Rattle.columns.proofs.ColumnLaws.{no-column}
+use Rattle.columns.proofs.CountedColumn.{columnAfter, flaggedBelow, limit-below, limit-not-below, counted}
+use Rattle.columns.proofs.column_and_flag.Statement.{statement}
+use Rattle.columns.proofs.column_and_flag.Tie as tie
 
 abbrev Inv-loop : tie.InvT-loop
 Inv-loop area column₀ flagged-below₀ k₀ column flagged-below k =
@@ -16,15 +18,21 @@ Inv-loop area column₀ flagged-below₀ k₀ column flagged-below k =
 abbrev μ-loop : tie.MeasureT-loop
 μ-loop area column₀ flagged-below₀ k₀ column flagged-below k = 4 - k
 
+returns : tie.Need-returns Inv-loop μ-loop
+unfolding flagOf
+returns c =
+    let start = c .before .before in
+    let none = no-column (start .args .area .high) (c .if1 .taken) in simp none
+
 loop-holds : tie.Need-loop-holds Inv-loop μ-loop
 unfolding columnAfter flaggedBelow
 loop-holds c = (omega arith, omega arith, refl, refl)
 
-mul-if1 : tie.Need-mul-if1 Inv-loop μ-loop
-mul-if1 c = omega arith
+mul-if2 : tie.Need-mul-if2 Inv-loop μ-loop
+mul-if2 c = omega arith
 
-array-read-if1 : tie.Need-array-read-if1 Inv-loop μ-loop
-array-read-if1 c = omega arith
+array-read-if2 : tie.Need-array-read-if2 Inv-loop μ-loop
+array-read-if2 c = omega arith
 
 add-column : tie.Need-add-column Inv-loop μ-loop
 add-column c = omega arith
@@ -36,7 +44,9 @@ array-read-flagged-below : tie.Need-array-read-flagged-below Inv-loop μ-loop
 array-read-flagged-below c = omega arith
 
 add-flagged-below : tie.Need-add-flagged-below Inv-loop μ-loop
-add-flagged-below c = omega (arith, c .if1 .taken, c .before .before .before .before .pre)
+add-flagged-below c =
+    let at-loop = c .before .before .before in
+    let within-last = at-loop .before in omega (arith, c .if2 .taken, within-last .if1 .left)
 
 add-k : tie.Need-add-k Inv-loop μ-loop
 add-k c = omega arith
@@ -46,25 +56,30 @@ loop-less c = omega arith
 
 loop-again : tie.Need-loop-again Inv-loop μ-loop
 loop-again c =
-    let at = c .before .before .before .loop in
-    let high = c .before .before .before .before .args .area .high in
+    let at-loop = c .before .before .before in
+    let start = at-loop .before .before .before in
+    let high = start .args .area .high in
+    let at = at-loop .loop in
     ⊎-elim
     (λ taken. let next = limit-below high (at .k) (taken .0 .taken) in (omega arith, omega (arith, taken .1), taken .1 ∙ ap (λ (x : ℕ). x + 1) (at .inv .2) ∙ next .0, taken .2 ∙ next .1))
     (λ left. let next = limit-not-below high (at .k) (left .0 .left) in (omega arith, omega (arith, left .1), left .1 ∙ at .inv .2 ∙ next .0, left .2 ∙ at .inv .3 ∙ next .1))
-    (c .if1 .came)
+    (c .if2 .came)
 
 cast-flag : tie.Need-cast-flag Inv-loop μ-loop
 cast-flag c = tt
 
-returns : tie.Need-returns Inv-loop μ-loop
-returns c =
-    let at = c .before .before .loop in
-    let area = c .before .before .before .args .area in
+returns-2 : tie.Need-returns-2 Inv-loop μ-loop
+returns-2 c =
+    let at-loop = c .before .before in
+    let within-last = at-loop .before in
+    let start = within-last .before .before in
+    let area = start .args .area in
+    let at = at-loop .loop in
     let past : at .k ≡ 4 = omega arith in
-    let found = counted (area .low) (area .high) (c .before .before .before .pre) in (
-      at .inv .2 ∙ ap (columnAfter (area .high)) past ∙ found .0,
-      ap (λ (x : ℕ). boolByte (ltb (area .low) x)) (at .inv .3 ∙ ap (flaggedBelow (area .high)) past) ∙ found .1,
-    )
+    let found = counted (area .low) (area .high) (within-last .if1 .left) in
+    ap₂ columnAndFlag
+    (at .inv .2 ∙ ap (columnAfter (area .high)) past ∙ found .0)
+    (ap (λ (x : ℕ). boolByte (ltb (area .low) x)) (at .inv .3 ∙ ap (flaggedBelow (area .high)) past) ∙ found .1)
 
 pub column-and-flag-spec : {M : Type 1} → statement M
 column-and-flag-spec =
@@ -72,9 +87,10 @@ column-and-flag-spec =
     (tie.spec
     Inv-loop
     μ-loop
+    returns
     loop-holds
-    mul-if1
-    array-read-if1
+    mul-if2
+    array-read-if2
     add-column
     mul-flagged-below
     array-read-flagged-below
@@ -83,4 +99,4 @@ column-and-flag-spec =
     loop-less
     loop-again
     cast-flag
-    returns)
+    returns-2)

@@ -7,7 +7,7 @@ use native.Mathlib.Nat.{not-suc-le-zero, le-of-suc-le-suc}
 use native.Mathlib.Omega.{arith}
 use Rattle.arithmetic.proofs.TestLaws.{cond-le}
 use lib.ListN.{length, getD}
-use Rattle.sheet.specs.Column.{firstFrom}
+use Rattle.columns.specs.Column.{firstFrom}
 
 -- a walk that counts from j ends before j and the table's length
 pub first-max : (p : ℕ → Bool) (xs : List ℕ) (j : ℕ) → firstFrom p (suc j) xs ≤ j + length xs
@@ -46,3 +46,8 @@ pub first-exists : (p : ℕ → Bool) (xs : List ℕ) (n : ℕ) → n < length x
 first-exists p [] n h t = absurd (not-suc-le-zero h)
 first-exists p (x ∷ xs) zero h t = at-head p x xs (p x) refl (λ e. absurd (true≢false (sym t ∙ e)))
 first-exists p (x ∷ xs) (suc n) h t = at-head p x xs (p x) refl (λ e. first-exists p xs n (le-of-suc-le-suc h) t)
+
+-- where no entry passes the walk gives 0
+pub first-none : (p : ℕ → Bool) (xs : List ℕ) (j : ℕ) → ((i : ℕ) → i < length xs → p (getD xs i 0) ≡ false) → firstFrom p j xs ≡ 0
+first-none p [] j h = refl
+first-none p (x ∷ xs) j h = simp (h 0 (omega arith)) (first-none p xs (suc j) (λ i l. h (suc i) (omega arith)))

@@ -4,25 +4,21 @@ use native.Mathlib.Nat.{mul-le-mul, mul-le-mul-left, mul-le-mul-right, add-le-ad
 use native.Mathlib.Omega.{arith}
 use lib.Dec.{lit<}
 use Rattle.arithmetic.proofs.RoundingLaws.{down-mono, up-mono, down-anti, up-anti}
-use Rattle.sheet.specs.Lines.{Formula, whole, sixTenths, glideOnly, fullWidth, formulaOf, runOf, savingOf, totalAt, totalOf, areaNum, areaDen, areaOf}
+use Rattle.sheet.specs.Lines.{Formula, whole, sixTenths, glideOnly, fullWidth, glideOf, formulaOf, runRate, runScale, runOf, savingTimesMass, savingOf, totalAt, totalOf, areaNum, areaDen, areaOf}
 use Rattle.sheet.specs.Sheet.{linesOf, withLines}
-use Rattle.sheet.specs.Laws.{AreaGrowsWithMassAndSpeed}
-
-pub denominator-pos : (f : Formula) → 0 < areaDen f
-denominator-pos whole = lit< tt
-denominator-pos sixTenths = lit< tt
-denominator-pos glideOnly = lit< tt
+use Rattle.sheet.specs.Growth.{AreaGrowsWithMassAndSpeed}
+use Rattle.sheet.proofs.FormulaLaws.{denominator-pos}
 
 run-grows : (v v′ : ℕ) → v ≤ v′ → (runOf v .low ≤ runOf v′ .low) × (runOf v .high ≤ runOf v′ .high)
 unfolding runOf
 run-grows v v′ h = (
-  down-mono _ _ 1000000000 (lit< tt) (mul-le-mul-right 1926617433 (mul-le-mul h h)),
-  up-mono _ _ 1000000000 (lit< tt) (mul-le-mul-right 1926617434 (mul-le-mul h h)),
+  down-mono _ _ runScale (lit< tt) (mul-le-mul-right (runRate .low) (mul-le-mul h h)),
+  up-mono _ _ runScale (lit< tt) (mul-le-mul-right (runRate .high) (mul-le-mul h h)),
 )
 
 saving-falls : (m m′ : ℕ) → 0 < m → m ≤ m′ → (savingOf m′ .low ≤ savingOf m .low) × (savingOf m′ .high ≤ savingOf m .high)
 unfolding savingOf
-saving-falls m m′ p h = (down-anti 39415562351 m m′ p h, up-anti 39415562352 m m′ p h)
+saving-falls m m′ p h = (down-anti (savingTimesMass .low) m m′ p h, up-anti (savingTimesMass .high) m m′ p h)
 
 total-grows : (a a′ g s s′ : ℕ) → a ≤ a′ → s ≤ s′ → totalAt a g s ≤ totalAt a′ g s′
 total-grows a a′ g s s′ ha hs =
@@ -43,8 +39,8 @@ area-grows w m m′ v v′ p hm hv =
     in record {
       low =
           down-mono _ _ (areaDen (formulaOf w)) (denominator-pos (formulaOf w))
-          (numerator-grows (formulaOf w) (fullWidth w) (fullWidth w) 2570666 _ _ (le-refl _) (omega arith));
+          (numerator-grows (formulaOf w) (fullWidth w) (fullWidth w) (glideOf .low) _ _ (le-refl _) (omega arith));
       high =
           up-mono _ _ (areaDen (formulaOf w)) (denominator-pos (formulaOf w))
-          (numerator-grows (formulaOf w) (fullWidth w) (fullWidth w) 2570667 _ _ (le-refl _) (omega arith));
+          (numerator-grows (formulaOf w) (fullWidth w) (fullWidth w) (glideOf .high) _ _ (le-refl _) (omega arith));
     }

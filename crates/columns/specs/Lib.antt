@@ -1,0 +1,4 @@
+pub mod Bracket
+pub mod Column
+pub mod ColumnAtMost
+pub mod ExactColumn
