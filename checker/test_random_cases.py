@@ -42,6 +42,14 @@ OLD = g.zeros()
 
 
 class PageTest(unittest.TestCase):
+    def test_lengths_and_parts(self):
+        rows = table_rows(section("Lengths and places"))
+        lengths = [number(row[1]) for row in rows if len(row) == 2]
+        self.assertEqual(lengths, [g.ROWS, g.COLUMNS, g.PLACES, g.TEXT_LENGTH, g.FRAME_LENGTH, g.REFUSAL_LENGTH])
+        parts = [(name, number(lines), number(digits)) for name, lines, digits in (row for row in rows if len(row) == 3)
+                 if name != "Part" and "-" not in name]
+        self.assertEqual(parts, [(part.name, part.lines, sum(part.widths)) for part in g.BLOCKS])
+
     def test_aircraft_tables(self):
         for title, table in (("The column table", r.COLUMN_AIRCRAFT),
                              ("The flagged table", r.FLAGGED_AIRCRAFT),
