@@ -11,6 +11,7 @@ package's lengths, lists of fields and refusals must be those of the checker. Pr
 import ctypes
 import re
 import sys
+from itertools import zip_longest
 from pathlib import Path
 from typing import NamedTuple
 
@@ -216,13 +217,18 @@ SAID = {5: (*g.LENT_LENGTHS,), 13: (g.TEXT_LENGTH,), 15: (g.FRAME_LENGTH,)}
 # The comparison
 # ---------------------------------------------------------------------------
 
+def first_difference(found, wanted):
+    return next(pair for pair in zip_longest(found, wanted, fillvalue=("nothing", "there")) if pair[0] != pair[1])
+
+
 def compared(what, wanted, found):
     """The differences of two dictionaries of lists."""
     lines = [f"{what} has no {name}" for name in wanted if name not in found]
     lines += [f"{what} has {name}, which the library doesn't have" for name in found if name not in wanted]
     for name in wanted:
         if name in found and wanted[name] != found[name]:
-            lines.append(f"{what} has {name} with {found[name]}, the library with {wanted[name]}")
+            one, other = first_difference(found[name], wanted[name])
+            lines.append(f"{what} has {name} with {one[0]}: {one[1]}, where the library has {other[0]}: {other[1]}")
     return lines
 
 
