@@ -59,6 +59,13 @@ class SharesTest(unittest.TestCase):
             for parameter in operation.parameters:
                 self.assertIn(parameter.name, compare.DRAWS)
 
+    def test_the_lists_of_checker_and_table_are_in_one_order(self):
+        for lent in (library.MAP, library.LENT):
+            self.assertEqual(tuple(parameter.name for parameter in lent), g.Lent._fields)
+        self.assertEqual(tuple(name for name, _ in library.CaseHead._fields_), g.Fields._fields)
+        self.assertEqual(tuple(name for name, _ in library.FrameFields._fields_), g.Frame._fields)
+        self.assertEqual(set(compare.BUFFERS), set(g.Lent._fields))
+
     def test_those_on_a_map_or_a_text_are_a_third(self):
         dear = [name for name, operation in library.OPERATIONS.items()
                 if {"text", "counts"} & {parameter.name for parameter in operation.parameters}]
