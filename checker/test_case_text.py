@@ -58,6 +58,9 @@ class ReadingTest(unittest.TestCase):
         self.assertEqual({part.fills for part in g.BLOCKS} - {""}, set(g.Lent._fields))
         self.assertEqual(g.REFUSAL_DIGITS + sum(width for _, width in g.FRAME) + 1, g.FRAME_LENGTH)
         self.assertEqual(g.REFUSAL_DIGITS + 1, g.REFUSAL_LENGTH)
+        for number, lengths in ((5, g.LENT_LENGTHS), (13, [g.TEXT_LENGTH]), (15, [g.FRAME_LENGTH])):
+            for length in lengths:
+                self.assertIn(f"{length:,}", g.REFUSALS[number])
         self.assertEqual(DIGIT_PLACES, {0, 37, 39, 54, 1_110, 1_125, 1_127, 1_638, 33_446, 33_957})
         self.assertEqual(LINE_END_PLACES, {38, 55, 1_126, 1_639, 33_958})
 
