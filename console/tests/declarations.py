@@ -218,7 +218,9 @@ SAID = {5: (*g.LENT_LENGTHS,), 13: (g.TEXT_LENGTH,), 15: (g.FRAME_LENGTH,)}
 # ---------------------------------------------------------------------------
 
 def first_difference(found, wanted):
-    return next(pair for pair in zip_longest(found, wanted, fillvalue=("nothing", "there")) if pair[0] != pair[1])
+    """The first entries that differ, in words."""
+    pair = next(pair for pair in zip_longest(found, wanted) if pair[0] != pair[1])
+    return tuple("nothing" if one is None else f"{one[0]}: {one[1]}" for one in pair)
 
 
 def compared(what, wanted, found):
@@ -228,7 +230,7 @@ def compared(what, wanted, found):
     for name in wanted:
         if name in found and wanted[name] != found[name]:
             one, other = first_difference(found[name], wanted[name])
-            lines.append(f"{what} has {name} with {one[0]}: {one[1]}, where the library has {other[0]}: {other[1]}")
+            lines.append(f"{what} has {name} with {one}, where the library has {other}")
     return lines
 
 
@@ -256,7 +258,7 @@ def list_differences(checker, rattle):
     for what, wanted, struct in (("line 1", checker.line_1, "CaseHead"), ("the frame", checker.frame[1:], "FrameFields")):
         names = [name for name, _ in rattle.structs.get(struct, [])]
         if [name for name, _ in wanted] != names:
-            lines.append(f"the checker's {what} has {wanted}, {struct} has {names}")
+            lines.append(f"{what} of the checker has {wanted}, {struct} has {names}")
     return lines
 
 
