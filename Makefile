@@ -2,7 +2,8 @@
 #
 #   make                       the library, target/staticlib/libnuggetbay.a, and the program, target/bin/case
 #   make install PREFIX=DIR    library, header, pkg-config file, Rust package and program in DIR (default /usr/local)
-#   make test-boundary         the library's calls against the checker, under unreadable memory and under valgrind; the program; both examples
+#   make test-boundary         what is declared for C, Rust and Python against the library's own; its calls against the checker, under
+#                              unreadable memory and under valgrind; the program; both examples; the benchmark compiled
 #   make bench                 the library against obvious and tuned Rust
 
 PREFIX ?= /usr/local
@@ -20,7 +21,7 @@ CARGO = cd console && cargo
 EXAMPLES = farmhouses flagged refused
 FAULTS = a b c m t f r n p
 
-.PHONY: all install test-boundary test-lent test-valgrind test-faults test-program test-install test-rust bench tools
+.PHONY: all install test-boundary test-declarations test-lent test-valgrind test-faults test-program test-install test-rust test-bench bench tools
 .DELETE_ON_ERROR:
 
 all: $(LIBRARY) $(PROGRAM)
@@ -48,14 +49,19 @@ install: $(LIBRARY) $(PROGRAM)
 
 # ---- the boundary
 
-test-boundary: test-lent test-faults test-valgrind test-program test-install test-rust
+test-boundary: test-declarations test-lent test-faults test-valgrind test-program test-install test-rust test-bench
 	@echo 'test-boundary: all passed'
 
 tools:
 	@for tool in $(CC) cargo python3 valgrind; do \
 	    command -v $$tool >/dev/null || { echo "test-boundary: FAILED: $$tool is needed and isn't there"; exit 1; }; done
 
-$(CALLS): console/tests/boundary_calls.py checker/ground_risk.py checker/random_cases.py checker/flagged_aircraft.py | $(MADE)
+# every exported struct and function against header, Rust package and checker; first that the comparison notices a difference
+test-declarations: tools
+	python3 -m unittest discover --start-directory console/tests
+	python3 console/tests/declarations.py
+
+$(CALLS): console/tests/boundary_calls.py $(addprefix checker/,ground_risk.py library.py random_cases.py flagged_aircraft.py) | $(MADE)
 	python3 console/tests/boundary_calls.py $@
 
 $(MADE)/boundary: console/tests/boundary.c $(HEADER) $(LIBRARY) | $(MADE)
@@ -80,15 +86,9 @@ test-faults: tools $(MADE)/boundary-faults $(CALLS)
 	    [ $$? -eq 9 ] || { echo "test-faults: fault u wasn't noticed"; exit 1; }
 	@echo 'every fault was noticed: $(FAULTS) u'
 
-# no contract can say what a program reads and writes: inputs that end early or late, held to the checker
-TEXT_ENDS = 0 1 38 33958 33959 33960 67918
-test-program: tools $(PROGRAM) | $(MADE)
-	@for end in $(TEXT_ENDS); do \
-	    cat examples/farmhouses.case examples/farmhouses.case | head -c $$end >$(MADE)/text; \
-	    python3 checker/case.py <$(MADE)/text >$(MADE)/frame; \
-	    $(PROGRAM) <$(MADE)/text | cmp - $(MADE)/frame || exit 1; \
-	    cat $(MADE)/text | $(PROGRAM) | cmp - $(MADE)/frame || exit 1; done
-	@echo 'the program prints what the checker says for inputs of $(TEXT_ENDS) bytes, from a file and from a pipe'
+# inputs that end early or late, held to the checker
+test-program: tools $(PROGRAM)
+	python3 console/tests/program.py $(PROGRAM)
 
 # what is installed serves both examples and gives the program
 INSTALLED = $(MADE)/installed
@@ -112,6 +112,10 @@ test-rust: tools $(LIBRARY)
 	$(CARGO) test --release --quiet --package nuggetbay --test library
 
 # ---- the benchmark
+
+# its code is compiled with every test, and run by hand
+test-bench: tools $(LIBRARY)
+	$(CARGO) build --release --quiet --package bench
 
 bench: $(LIBRARY)
 	$(CARGO) run --release --quiet --package bench

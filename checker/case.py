@@ -2,13 +2,13 @@
 
 import sys
 
-import ground_risk
+import ground_risk as g
 
 
 def frame_of(text):
     """The bytes that the program `case` must print for this text."""
-    answer = ground_risk.case(text, [0] * 4096, [0] * 64, bytes(41))
-    return answer.frame[:41 if answer.refusal == 0 else 3]
+    answer = g.case(text, g.zeros(), bytes(g.FRAME_LENGTH))
+    return answer.frame[:g.printed_length(answer.refusal)]
 
 
 if __name__ == "__main__":

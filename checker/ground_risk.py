@@ -4,8 +4,28 @@ This says what every operation must answer, for every input. It is written to
 be read beside the paper, not to be fast. Quoted sentences are document 01's.
 """
 
+from collections import namedtuple
 from fractions import Fraction
 from typing import NamedTuple
+
+# Every refusal, in the words of document 01's lists.
+REFUSALS = {
+    1: "dimension outside its range",
+    2: "mass",
+    3: "speed",
+    4: "high area above 650,000,000",
+    5: "the map isn't 4,096 numbers long or the footprint isn't 64",
+    6: "cell area out of range",
+    7: "any count, marked or not, above 1,000,000",
+    8: "no bit set",
+    9: "column not 1 to 5, row not 2 to 7, or mark not 0 or 1; or class not an entry of that column",
+    10: 'the entry is "none"',
+    11: "a digit that isn't offered",
+    12: "a final class above 7",
+    13: "length other than 33,959",
+    14: "a byte that isn't a digit or line end in its place",
+    15: "a buffer shorter than 41 bytes, for refused cases too",
+}
 
 # ---------------------------------------------------------------------------
 # The aircraft and its area
@@ -198,6 +218,7 @@ def sheet(w, m, v):
 
 # "A map is 64 rows of 64 cells"; "4,096 32-bit numbers, row after row."
 ROWS = 64
+COLUMNS = 64
 PLACES = 4096
 # "one cell area s for all, 100 to 25,000,000 square metres."
 CELL_AREA_RANGE = (100, 25_000_000)
@@ -225,25 +246,28 @@ def table_row(people, cell_area):
 def is_marked(marks, place):
     # "the highest bit of each is the westernmost cell, and a set bit marks a
     #  cell as flown over."
-    return (marks[place // 64] >> (63 - place % 64)) & 1 == 1
+    return (marks[place // COLUMNS] >> (COLUMNS - 1 - place % COLUMNS)) & 1 == 1
+
+
+NO_FOOTPRINT = (0, 0, 0, 0)
 
 
 def footprint(counts, marks, cell_area):
     # "5 the map isn't 4,096 numbers long or the footprint isn't 64"
     if len(counts) != PLACES or len(marks) != ROWS:
-        return Footprint(5, 0, 0, 0, 0)
+        return Footprint(5, *NO_FOOTPRINT)
     # "6 cell area out of range"
     if not within(cell_area, CELL_AREA_RANGE):
-        return Footprint(6, 0, 0, 0, 0)
+        return Footprint(6, *NO_FOOTPRINT)
     # "7 any count, marked or not, above 1,000,000"
     if any(count > LARGEST_COUNT for count in counts):
-        return Footprint(7, 0, 0, 0, 0)
+        return Footprint(7, *NO_FOOTPRINT)
     # "8 no bit set."
     marked = [place for place in range(PLACES) if is_marked(marks, place)]
     if not marked:
-        return Footprint(8, 0, 0, 0, 0)
-    # "the highest row among marked cells"
-    row = max(table_row(counts[place], cell_area) for place in marked)
+        return Footprint(8, *NO_FOOTPRINT)
+    # "the highest row among marked cells", each count once
+    row = max(table_row(count, cell_area) for count in {counts[place] for place in marked})
     # "the place (64 × row + column) of the first marked cell with the largest
     #  count"
     largest = max(counts[place] for place in marked)
@@ -271,22 +295,22 @@ CLASS_TABLE = {
 }
 
 
-def row_used(row, controlled_mark):
+def row_used(row, controlled):
     # "A controlled-ground mark of 1 puts row 1 in place of the footprint's
     #  row; 0 keeps it."
-    return 1 if controlled_mark == 1 else row
+    return 1 if controlled == 1 else row
 
 
-def intrinsic_class(column, row, controlled_mark):
+def intrinsic_class(column, row, controlled):
     """The refusal and the intrinsic class."""
     # "9 column not 1 to 5, row not 2 to 7, or mark not 0 or 1"
     if column not in (1, 2, 3, 4, 5):
         return 9, 0
     if row not in (2, 3, 4, 5, 6, 7):
         return 9, 0
-    if controlled_mark not in (0, 1):
+    if controlled not in (0, 1):
         return 9, 0
-    entry = CLASS_TABLE[row_used(row, controlled_mark)][column - 1]
+    entry = CLASS_TABLE[row_used(row, controlled)][column - 1]
     # "10 the entry is "none". The answer is zero then."
     if entry is NONE:
         return 10, 0
@@ -348,7 +372,7 @@ class Working(NamedTuple):
     final: int | None
 
 
-def working(column, counts, marks, cell_area, controlled_mark, word):
+def working(column, counts, marks, cell_area, controlled, word):
     # "Each working takes the footprint's row, then the class table, then the
     #  mitigation word, with its own column at both."
     # "The first refusal ends a working: a class given before it counts as
@@ -356,11 +380,11 @@ def working(column, counts, marks, cell_area, controlled_mark, word):
     ground = footprint(counts, marks, cell_area)
     if ground.refusal != 0:
         return Working(ground.refusal, None, None)
-    return working_from_row(column, ground.row, controlled_mark, word)
+    return working_from_row(column, ground.row, controlled, word)
 
 
-def working_from_row(column, row, controlled_mark, word):
-    refusal, intrinsic = intrinsic_class(column, row, controlled_mark)
+def working_from_row(column, row, controlled, word):
+    refusal, intrinsic = intrinsic_class(column, row, controlled)
     if refusal != 0:
         return Working(refusal, None, None)
     refusal, final = final_class(column, intrinsic, word)
@@ -375,15 +399,15 @@ class Assessment(NamedTuple):
     footprint: Footprint
     row_used: int
     intrinsic: int
-    final: int
+    final_class: int
 
 
 def refused_assessment(refusal):
     # Demand 1: "after a refusal every number is zero"
-    return Assessment(refusal, refused_sheet(0), Footprint(0, 0, 0, 0, 0), 0, 0, 0)
+    return Assessment(refusal, refused_sheet(0), Footprint(0, *NO_FOOTPRINT), 0, 0, 0)
 
 
-def assessment(w, m, v, counts, marks, cell_area, controlled_mark, word):
+def assessment(w, m, v, counts, marks, cell_area, controlled, word):
     # "sheet, footprint, class, mitigation; the first refusal"
     aircraft = sheet(w, m, v)
     if aircraft.refusal != 0:
@@ -391,13 +415,13 @@ def assessment(w, m, v, counts, marks, cell_area, controlled_mark, word):
     ground = footprint(counts, marks, cell_area)
     if ground.refusal != 0:
         return refused_assessment(ground.refusal)
-    refusal, intrinsic = intrinsic_class(aircraft.column, ground.row, controlled_mark)
+    refusal, intrinsic = intrinsic_class(aircraft.column, ground.row, controlled)
     if refusal != 0:
         return refused_assessment(refusal)
     refusal, final = final_class(aircraft.column, intrinsic, word)
     if refusal != 0:
         return refused_assessment(refusal)
-    return Assessment(0, aircraft, ground, row_used(ground.row, controlled_mark),
+    return Assessment(0, aircraft, ground, row_used(ground.row, controlled),
                       intrinsic, final)
 
 
@@ -412,115 +436,148 @@ LINE_END = bytes([10])
 
 # "Line 1 has 38 digits: dimension 8, mass 8, speed 8, cell area 8, controlled
 #  mark 2, mitigation word 4."
-LINE_1_DIGITS = 38
+LINE_1 = (("dimension", 8), ("mass", 8), ("speed", 8), ("cell_area", 8),
+          ("controlled", 2), ("word", 4))
+Fields = namedtuple("Fields", [name for name, _ in LINE_1])
+NO_FIELDS = Fields(*(0 for _ in LINE_1))
+
+
+class Block(NamedTuple):
+    """Lines of the text, each of fields with these widths in digits."""
+    name: str
+    lines: int
+    widths: tuple
+    # the lent buffer that takes its numbers; line 1 has none
+    fills: str = ""
+
+
 # "Then 64 lines of 16 digits, the footprint, and 64 lines of 512 digits, eight
 #  a count. The whole is 33,959 bytes."
-LINE_LENGTHS = [LINE_1_DIGITS] + [16] * 64 + [512] * 64
+BLOCKS = (
+    Block("line 1", 1, tuple(width for _, width in LINE_1)),
+    Block("footprint lines", ROWS, (16,), "marks"),
+    Block("count lines", ROWS, (8,) * COLUMNS, "counts"),
+)
 TEXT_LENGTH = 33_959
 
-
-class Fields(NamedTuple):
-    dimension: int
-    mass: int
-    speed: int
-    cell_area: int
-    controlled_mark: int
-    word: int
+# "a lent count or footprint buffer", each with its right length.
+LENT = (("counts", PLACES), ("marks", ROWS))
+Lent = namedtuple("Lent", [name for name, _ in LENT])
+LENT_LENGTHS = Lent(*(length for _, length in LENT))
 
 
-NO_FIELDS = Fields(0, 0, 0, 0, 0, 0)
+def zeros(lengths=LENT_LENGTHS):
+    """Lent buffers of these lengths, holding zeros."""
+    return Lent(*([0] * length for length in lengths))
+
+
+def line_digits(name):
+    """The digits of a line of the block of this name."""
+    return next(sum(block.widths) for block in BLOCKS if block.name == name)
+
+
+def text_place(name, line, digit):
+    """The place in the text of a digit of a line of the block of this name, both
+    counted from 0. The line end is the digit after the last one."""
+    start = 0
+    for block in BLOCKS:
+        length = sum(block.widths) + 1
+        if block.name == name:
+            return start + line * length + digit
+        start += block.lines * length
 
 
 class Reading(NamedTuple):
     refusal: int
     fields: Fields
-    counts: list
-    marks: list
+    lent: Lent
 
 
 def is_text(text):
     # "14 a byte that isn't a digit or line end in its place."
     lines = bytes(text).split(LINE_END)
-    return ([len(line) for line in lines] == LINE_LENGTHS + [0]
+    lengths = [sum(block.widths) for block in BLOCKS for _ in range(block.lines)]
+    return ([len(line) for line in lines] == lengths + [0]
             and all(byte in DIGITS for byte in set(b"".join(lines))))
 
 
-def number_of(digits):
-    return int(digits, 16)
+def numbers_of(line, widths):
+    numbers, start = [], 0
+    for width in widths:
+        numbers.append(int(line[start:start + width], 16))
+        start += width
+    return numbers
 
 
-def read_case(text, counts_buffer, marks_buffer):
-    """The reading, with both buffers as they are at exit."""
-    counts_buffer, marks_buffer = list(counts_buffer), list(marks_buffer)
+def read_case(text, lent):
+    """The reading, with the lent buffers as they are at exit."""
+    lent = Lent(*map(list, lent))
     # "13 length other than 33,959"
     if len(text) != TEXT_LENGTH:
-        return Reading(13, NO_FIELDS, counts_buffer, marks_buffer)
+        return Reading(13, NO_FIELDS, lent)
     # "5 a lent count or footprint buffer of the wrong length"
-    if len(counts_buffer) != PLACES or len(marks_buffer) != ROWS:
-        return Reading(5, NO_FIELDS, counts_buffer, marks_buffer)
+    if tuple(map(len, lent)) != LENT_LENGTHS:
+        return Reading(5, NO_FIELDS, lent)
     # "All bytes are tested before any is stored, so a refused reading changes
     #  neither buffer."
     if not is_text(text):
-        return Reading(14, NO_FIELDS, counts_buffer, marks_buffer)
-    lines = bytes(text).split(LINE_END)
-    first = lines[0]
-    fields = Fields(number_of(first[0:8]), number_of(first[8:16]),
-                    number_of(first[16:24]), number_of(first[24:32]),
-                    number_of(first[32:34]), number_of(first[34:38]))
-    marks = [number_of(line) for line in lines[1:65]]
-    counts = [number_of(line[start:start + 8])
-              for line in lines[65:129] for start in range(0, 512, 8)]
-    return Reading(0, fields, counts, marks)
+        return Reading(14, NO_FIELDS, lent)
+    lines = iter(bytes(text).split(LINE_END))
+    read = {block.fills: [number for _ in range(block.lines)
+                          for number in numbers_of(next(lines), block.widths)]
+            for block in BLOCKS}
+    return Reading(0, Fields(*read.pop("")), Lent(**read))
 
 
-def digits_of(value, length):
-    """The last `length` hexadecimal digits of a number, as bytes."""
-    return b"%0*x" % (length, value % 16 ** length)
+def line_of(numbers, widths):
+    """Each number in as many digits as its field has, and the line end."""
+    fields = b"".join(b"%%0%dx" % width for width in widths)
+    return fields % tuple(numbers) + LINE_END
 
 
-def text_of_fields(fields, marks, counts):
-    """The case text of these fields, 64 footprint rows and 4,096 counts."""
-    first = b"".join([digits_of(fields.dimension, 8), digits_of(fields.mass, 8),
-                      digits_of(fields.speed, 8), digits_of(fields.cell_area, 8),
-                      digits_of(fields.controlled_mark, 2), digits_of(fields.word, 4)])
-    footprint_lines = [digits_of(row, 16) for row in marks]
-    count_lines = [b"".join(digits_of(count, 8) for count in counts[start:start + 64])
-                   for start in range(0, len(counts), 64)]
-    return b"".join(line + b"\n" for line in [first] + footprint_lines + count_lines)
+def text_of_fields(fields, lent):
+    """The case text of these fields and of what a reading of it fills."""
+    lines = []
+    for block in BLOCKS:
+        numbers = getattr(lent, block.fills) if block.fills else fields
+        for start in range(0, len(numbers), len(block.widths)):
+            lines.append(line_of(numbers[start:start + len(block.widths)], block.widths))
+    return b"".join(lines)
 
 
 # ---------------------------------------------------------------------------
 # Printed frame and the whole case
 # ---------------------------------------------------------------------------
 
-class Frame(NamedTuple):
-    low: int
-    high: int
-    column: int
-    flag: int
-    row: int
-    place: int
-    people: int
-    intrinsic: int
-    final: int
-
-
-# "The printed frame has 40 digits and a line end"
+# "The printed frame has 40 digits and a line end: 00; low 8; high 8; column 2;
+#  flag 2; table row used 2; place 4; people 8; intrinsic class 2; final class 2
+#  (−1 is ff)."
+FRAME = (("low", 8), ("high", 8), ("column", 2), ("flag", 2), ("row_used", 2), ("place", 4),
+         ("people", 8), ("intrinsic", 2), ("final_class", 2))
+Frame = namedtuple("Frame", [name for name, _ in FRAME])
 FRAME_LENGTH = 41
+# "A refused case gives its number as two digits and a line end instead."
+REFUSAL_DIGITS = 2
+REFUSAL_LENGTH = 3
 
 
 def frame_text(outcome):
     """The bytes for a frame's fields, or for a refusal number."""
-    if isinstance(outcome, Frame):
-        # "00; low 8; high 8; column 2; flag 2; table row used 2; place 4;
-        #  people 8; intrinsic class 2; final class 2 (−1 is ff)."
-        return b"".join([b"00", digits_of(outcome.low, 8), digits_of(outcome.high, 8),
-                         digits_of(outcome.column, 2), digits_of(outcome.flag, 2),
-                         digits_of(outcome.row, 2), digits_of(outcome.place, 4),
-                         digits_of(outcome.people, 8), digits_of(outcome.intrinsic, 2),
-                         digits_of(255 if outcome.final < 0 else outcome.final, 2), b"\n"])
-    # "A refused case gives its number as two digits and a line end instead."
-    return digits_of(outcome, 2) + b"\n"
+    if not isinstance(outcome, Frame):
+        return line_of([outcome], [REFUSAL_DIGITS])
+    if outcome.final_class < 0:
+        outcome = outcome._replace(final_class=255)
+    # Of a number too long for its field the last digits are written.
+    widths = [width for _, width in FRAME]
+    numbers = [number % 16 ** width for number, width in zip(outcome, widths)]
+    return line_of([0, *numbers], [REFUSAL_DIGITS, *widths])
+
+
+def printed_length(refusal):
+    """How many bytes of the frame buffer a case with this answer writes."""
+    if refusal == 15:
+        return 0
+    return FRAME_LENGTH if refusal == 0 else REFUSAL_LENGTH
 
 
 class Writing(NamedTuple):
@@ -539,36 +596,46 @@ def write_frame(outcome, frame_buffer):
     return Writing(0, written + frame_buffer[len(written):])
 
 
+def frame_of(answer):
+    """The printed fields of an assessment."""
+    return Frame(low=answer.sheet.area.low, high=answer.sheet.area.high,
+                 column=answer.sheet.column, flag=answer.sheet.flag,
+                 row_used=answer.row_used, place=answer.footprint.place,
+                 people=answer.footprint.people, intrinsic=answer.intrinsic,
+                 final_class=answer.final_class)
+
+
+def assessment_of(fields, lent):
+    """The assessment of what a text says."""
+    return assessment(fields.dimension, fields.mass, fields.speed, lent.counts, lent.marks,
+                      fields.cell_area, fields.controlled, fields.word)
+
+
 class CaseAnswer(NamedTuple):
     refusal: int
-    counts: list
-    marks: list
+    lent: Lent
     frame: bytes
 
 
-def case(text, counts_buffer, marks_buffer, frame_buffer):
-    """The whole case, with all three buffers as they are at exit."""
+# "A reading that succeeds fills both buffers, also when a later refusal is
+#  printed; under 15 they keep their content": the refusals before it succeeds.
+NOT_READ = (15, 13, 5, 14)
+
+
+def case(text, lent, frame_buffer):
+    """The whole case, with all lent buffers as they are at exit."""
     # "The whole case is tested in the order: 15, reading, sheet, footprint,
     #  class, mitigation; the first refusal from reading on is printed."
-    # "under 15 they keep their content."
     if len(frame_buffer) < FRAME_LENGTH:
-        return CaseAnswer(15, list(counts_buffer), list(marks_buffer), bytes(frame_buffer))
-    reading = read_case(text, counts_buffer, marks_buffer)
+        return CaseAnswer(15, Lent(*map(list, lent)), bytes(frame_buffer))
+    reading = read_case(text, lent)
     if reading.refusal != 0:
         frame = write_frame(reading.refusal, frame_buffer).frame
-        return CaseAnswer(reading.refusal, reading.counts, reading.marks, frame)
-    # "A reading that succeeds fills both buffers, also when a later refusal is
-    #  printed"
-    fields = reading.fields
-    answer = assessment(fields.dimension, fields.mass, fields.speed, reading.counts,
-                        reading.marks, fields.cell_area, fields.controlled_mark, fields.word)
+        return CaseAnswer(reading.refusal, reading.lent, frame)
+    answer = assessment_of(reading.fields, reading.lent)
     if answer.refusal != 0:
         frame = write_frame(answer.refusal, frame_buffer).frame
-        return CaseAnswer(answer.refusal, reading.counts, reading.marks, frame)
-    outcome = Frame(answer.sheet.area.low, answer.sheet.area.high, answer.sheet.column,
-                    answer.sheet.flag, answer.row_used,
-                    answer.footprint.place, answer.footprint.people,
-                    answer.intrinsic, answer.final)
-    frame = write_frame(outcome, frame_buffer).frame
+        return CaseAnswer(answer.refusal, reading.lent, frame)
+    frame = write_frame(frame_of(answer), frame_buffer).frame
     # "Its answer is the refusal number alone, 0 when there is none."
-    return CaseAnswer(0, reading.counts, reading.marks, frame)
+    return CaseAnswer(0, reading.lent, frame)

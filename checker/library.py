@@ -1,42 +1,157 @@
-"""The proved library's operations, called through ctypes, with the checker's own types for their answers."""
+"""The proved library's operations: one table of what they take and answer, with what the checker says, and their calls from Python.
+
+A new operation is a struct for its answer and a row of OPERATIONS. Names, order and types are held to the library's own
+declarations by console/tests/declarations.py.
+"""
 
 import ctypes
 import subprocess
+from array import array
 from pathlib import Path
+from typing import Callable, NamedTuple
 
 import ground_risk as g
 
 ROOT = Path(__file__).resolve().parent.parent
 ARCHIVE = ROOT / "target" / "staticlib" / "libnuggetbay.a"
 
-U8, U16, U32, U64, I8, SIZE = (ctypes.c_uint8, ctypes.c_uint16, ctypes.c_uint32, ctypes.c_uint64, ctypes.c_int8, ctypes.c_size_t)
+U8, U16, U32, U64, I8 = ctypes.c_uint8, ctypes.c_uint16, ctypes.c_uint32, ctypes.c_uint64, ctypes.c_int8
+
+# ---------------------------------------------------------------------------
+# The structs of console/include/nuggetbay.h
+# ---------------------------------------------------------------------------
+
+STRUCTS = {}
 
 
 def struct(name, *fields):
-    return type(name, (ctypes.Structure,), {"_fields_": list(fields)})
+    STRUCTS[name] = type(name, (ctypes.Structure,), {"_fields_": list(fields)})
+    return STRUCTS[name]
 
 
-# The structs of console/include/nuggetbay.h.
 Bracket = struct("Bracket", ("low", U64), ("high", U64))
-Sheet = struct("Sheet", *((line, Bracket) for line in ("glide", "run", "saving", "slide", "total", "area")), ("column", U8), ("flag", U8))
+Sheet = struct(
+    "Sheet", ("glide", Bracket), ("run", Bracket), ("saving", Bracket), ("slide", Bracket), ("total", Bracket), ("area", Bracket),
+    ("column", U8), ("flag", U8))
 SheetAnswer = struct("SheetAnswer", ("refusal", U8), ("sheet", Sheet))
 Footprint = struct("Footprint", ("refusal", U8), ("row", U8), ("place", U32), ("people", U64), ("cells", U32))
-IntrinsicClass = struct("IntrinsicClass", ("refusal", U8), ("cls", U8))
-FinalClass = struct("FinalClass", ("refusal", U8), ("cls", I8))
-Assessment = struct("Assessment", ("refusal", U8), ("sheet", Sheet), ("footprint", Footprint), ("row_used", U8), ("intrinsic", U8), ("final", I8))
-CaseHead = struct("CaseHead", ("dimension", U32), ("mass", U32), ("speed", U32), ("cell_area", U32), ("controlled", U8), ("word", U16))
+IntrinsicClass = struct("IntrinsicClass", ("refusal", U8), ("class", U8))
+FinalClass = struct("FinalClass", ("refusal", U8), ("class", I8))
+Assessment = struct(
+    "Assessment", ("refusal", U8), ("sheet", Sheet), ("footprint", Footprint), ("row_used", U8), ("intrinsic", U8),
+    ("final_class", I8))
+CaseHead = struct(
+    "CaseHead", ("dimension", U32), ("mass", U32), ("speed", U32), ("cell_area", U32), ("controlled", U8), ("word", U16))
 Reading = struct("Reading", ("refusal", U8), ("head", CaseHead))
-FrameFields = struct("FrameFields", ("low", U64), ("high", U64), ("column", U8), ("flag", U8), ("row_used", U8), ("place", U32), ("people", U64),
-                     ("intrinsic", U8), ("final", I8))
+FrameFields = struct(
+    "FrameFields", ("low", U64), ("high", U64), ("column", U8), ("flag", U8), ("row_used", U8), ("place", U32), ("people", U64),
+    ("intrinsic", U8), ("final_class", I8))
 
 
-def sheet_of(refusal, s):
-    lines = [g.Line(line.low, line.high) for line in (s.glide, s.run, s.saving, s.slide, s.total, s.area)]
-    return g.Sheet(refusal, *lines, s.column, s.flag)
+# ---------------------------------------------------------------------------
+# The table of operations
+# ---------------------------------------------------------------------------
+
+class Parameter(NamedTuple):
+    name: str
+    kind: type          # of the number or struct; where it is lent, of an element
+    lent: str = ""      # "read" or "written" where it is lent, as a pointer and a length
 
 
-def footprint_of(f):
-    return g.Footprint(f.refusal, f.row, f.place, f.people, f.cells)
+def numbers(**kinds):
+    return tuple(Parameter(name, kind) for name, kind in kinds.items())
+
+
+def read(**kinds):
+    return tuple(Parameter(name, kind, "read") for name, kind in kinds.items())
+
+
+def written(**kinds):
+    return tuple(Parameter(name, kind, "written") for name, kind in kinds.items())
+
+
+class Outcome(NamedTuple):
+    """What a call answers, as the numbers of the answer in order, and what it leaves in each buffer that is lent to be written."""
+    answer: list
+    left: list
+
+
+def flat(value):
+    """The numbers of nested tuples, in order."""
+    return [number for part in value for number in flat(part)] if isinstance(value, tuple) else [value]
+
+
+def outcome(answer, left=()):
+    return Outcome(flat(answer), [list(buffer) for buffer in left])
+
+
+class Operation(NamedTuple):
+    function: str
+    parameters: tuple
+    answer: type
+    # what the checker says to the same arguments
+    said: Callable
+
+
+def said_assessment(*arguments):
+    a = g.assessment(*arguments)
+    # the boundary's sheet has no refusal of its own in an assessment
+    return outcome(a._replace(sheet=a.sheet[1:]))
+
+
+def said_reading(text, *lent):
+    reading = g.read_case(text, g.Lent(*lent))
+    return outcome((reading.refusal, reading.fields), reading.lent)
+
+
+def said_frame(refusal, fields, frame):
+    writing = g.write_frame(g.Frame(*fields) if refusal == 0 else refusal, frame)
+    return outcome(writing.refusal, [writing.frame])
+
+
+def said_case(text, *buffers):
+    *lent, frame = buffers
+    answer = g.case(text, g.Lent(*lent), frame)
+    return outcome(answer.refusal, [*answer.lent, answer.frame])
+
+
+AIRCRAFT = numbers(dimension=U32, mass=U32, speed=U32)
+# A map and its footprint, to be read, and to be filled.
+MAP = read(counts=U32, marks=U64)
+LENT = written(counts=U32, marks=U64)
+
+OPERATIONS = {
+    "sheet": Operation("nb_sheet", AIRCRAFT, SheetAnswer, lambda *a: outcome(g.sheet(*a))),
+    "footprint": Operation("nb_footprint", (*MAP, *numbers(cell_area=U32)), Footprint, lambda *a: outcome(g.footprint(*a))),
+    "intrinsic class": Operation("nb_intrinsic_class", numbers(column=U8, row=U8, controlled=U8), IntrinsicClass,
+                                 lambda *a: outcome(g.intrinsic_class(*a))),
+    "final class": Operation("nb_final_class", numbers(**{"column": U8, "class": U8, "word": U16}), FinalClass,
+                             lambda *a: outcome(g.final_class(*a))),
+    "assessment": Operation("nb_assess", (*AIRCRAFT, *MAP, *numbers(cell_area=U32, controlled=U8, word=U16)), Assessment,
+                            said_assessment),
+    "reading": Operation("nb_read_case", (*read(text=U8), *LENT), Reading, said_reading),
+    "frame": Operation("nb_write_frame", (*numbers(refusal=U8, fields=FrameFields), *written(frame=U8)), U8, said_frame),
+    "case": Operation("nb_case", (*read(text=U8), *LENT, *written(frame=U8)), U8, said_case),
+}
+
+
+# ---------------------------------------------------------------------------
+# Calls
+# ---------------------------------------------------------------------------
+
+# What an array of these numbers is made by, quicker than one by one.
+ARRAY_CODES = {U8: "B", U32: "I", U64: "Q"}
+
+
+def numbers_of(value):
+    """A struct or a number as nested tuples."""
+    if isinstance(value, ctypes.Structure):
+        return tuple(numbers_of(getattr(value, name)) for name, _ in value._fields_)
+    return value
+
+
+def buffer(kind, values):
+    return (kind * len(values)).from_buffer_copy(array(ARRAY_CODES[kind], values))
 
 
 class Library:
@@ -47,59 +162,28 @@ class Library:
         made.mkdir(parents=True, exist_ok=True)
         shared = made / "libnuggetbay.so"
         subprocess.run(["gcc", "-shared", "-o", shared, "-Wl,--whole-archive", ARCHIVE, "-Wl,--no-whole-archive"], check=True)
-        self.lib = ctypes.CDLL(str(shared))
-        for name, answer, *arguments in (
-                ("nb_sheet", SheetAnswer, U32, U32, U32),
-                ("nb_footprint", Footprint, ctypes.c_void_p, SIZE, ctypes.c_void_p, SIZE, U32),
-                ("nb_intrinsic_class", IntrinsicClass, U8, U8, U8),
-                ("nb_final_class", FinalClass, U8, U8, U16),
-                ("nb_assess", Assessment, U32, U32, U32, ctypes.c_void_p, SIZE, ctypes.c_void_p, SIZE, U32, U8, U16),
-                ("nb_read_case", Reading, ctypes.c_char_p, SIZE, ctypes.c_void_p, SIZE, ctypes.c_void_p, SIZE),
-                ("nb_write_frame", U8, U8, FrameFields, ctypes.c_void_p, SIZE),
-                ("nb_case", U8, ctypes.c_char_p, SIZE, ctypes.c_void_p, SIZE, ctypes.c_void_p, SIZE, ctypes.c_void_p, SIZE)):
-            function = getattr(self.lib, name)
-            function.restype, function.argtypes = answer, arguments
+        self.functions = {}
+        lib = ctypes.CDLL(str(shared))
+        for name, operation in OPERATIONS.items():
+            function = getattr(lib, operation.function)
+            function.restype, types = operation.answer, []
+            for parameter in operation.parameters:
+                lent = (ctypes.POINTER(parameter.kind), ctypes.c_size_t)
+                types += lent if parameter.lent else (parameter.kind,)
+            function.argtypes = types
+            self.functions[name] = function
 
-    def sheet(self, w, m, v):
-        answer = self.lib.nb_sheet(w, m, v)
-        return sheet_of(answer.refusal, answer.sheet)
-
-    def footprint(self, counts, marks, cell_area):
-        return footprint_of(self.lib.nb_footprint(*lent(U32, counts), *lent(U64, marks), cell_area))
-
-    def intrinsic_class(self, column, row, controlled):
-        answer = self.lib.nb_intrinsic_class(column, row, controlled)
-        return answer.refusal, answer.cls
-
-    def final_class(self, column, cls, word):
-        answer = self.lib.nb_final_class(column, cls, word)
-        return answer.refusal, answer.cls
-
-    def assessment(self, w, m, v, counts, marks, cell_area, controlled, word):
-        a = self.lib.nb_assess(w, m, v, *lent(U32, counts), *lent(U64, marks), cell_area, controlled, word)
-        return g.Assessment(a.refusal, sheet_of(0, a.sheet), footprint_of(a.footprint), a.row_used, a.intrinsic, a.final)
-
-    def read_case(self, text, counts, marks):
-        counts, marks = buffer(U32, counts), buffer(U64, marks)
-        answer = self.lib.nb_read_case(text, len(text), counts, len(counts), marks, len(marks))
-        f = answer.head
-        fields = g.Fields(f.dimension, f.mass, f.speed, f.cell_area, f.controlled, f.word)
-        return g.Reading(answer.refusal, fields, list(counts), list(marks))
-
-    def write_frame(self, refusal, fields, frame):
-        frame = buffer(U8, frame)
-        answer = self.lib.nb_write_frame(refusal, FrameFields(*fields), frame, len(frame))
-        return g.Writing(answer, bytes(frame))
-
-    def case(self, text, counts, marks, frame):
-        counts, marks, frame = buffer(U32, counts), buffer(U64, marks), buffer(U8, frame)
-        answer = self.lib.nb_case(text, len(text), counts, len(counts), marks, len(marks), frame, len(frame))
-        return g.CaseAnswer(answer, list(counts), list(marks), bytes(frame))
-
-
-def buffer(kind, values):
-    return (kind * len(values))(*values)
-
-
-def lent(kind, values):
-    return buffer(kind, values), len(values)
+    def call(self, name, values):
+        """The outcome of the operation of this name, called with these values in the table's order."""
+        arguments, left = [], []
+        for parameter, value in zip(OPERATIONS[name].parameters, values, strict=True):
+            if parameter.lent:
+                lent = buffer(parameter.kind, value)
+                arguments += (lent, len(value))
+                if parameter.lent == "written":
+                    left.append(lent)
+            elif issubclass(parameter.kind, ctypes.Structure):
+                arguments.append(parameter.kind(*value))
+            else:
+                arguments.append(value)
+        return outcome(numbers_of(self.functions[name](*arguments)), left)

@@ -29,17 +29,14 @@ COLUMN_AIRCRAFT = (
 FLAGGED_AIRCRAFT = tuple(row[2:] for row in FLAGGED)
 LIMIT_AIRCRAFT = tuple(row[2:] for row in AT_LIMITS)
 
-# Field number (0 dimension, 1 mass, 2 speed, 3 cell area) and value.
-EDGES = (
-    (0, 0), (0, 49), (0, 50), (0, 51), (0, 999), (0, 1_000), (0, 1_001),
-    (0, 7_999), (0, 8_000), (0, 8_001), (0, 99_999), (0, 100_000), (0, 100_001),
-    (0, 4_294_967_295),
-    (1, 0), (1, 49), (1, 50), (1, 51), (1, 24_999_999), (1, 25_000_000),
-    (1, 25_000_001), (1, 4_294_967_295),
-    (2, 0), (2, 1), (2, 39_999), (2, 40_000), (2, 40_001), (2, 4_294_967_295),
-    (3, 0), (3, 99), (3, 100), (3, 101), (3, 24_999_999), (3, 25_000_000),
-    (3, 25_000_001), (3, 4_294_967_295),
-)
+# A field of line 1 and its value.
+EDGES = tuple((name, value) for name, values in (
+    ("dimension", (0, 49, 50, 51, 999, 1_000, 1_001, 7_999, 8_000, 8_001, 99_999, 100_000, 100_001,
+                   4_294_967_295)),
+    ("mass", (0, 49, 50, 51, 24_999_999, 25_000_000, 25_000_001, 4_294_967_295)),
+    ("speed", (0, 1, 39_999, 40_000, 40_001, 4_294_967_295)),
+    ("cell_area", (0, 99, 100, 101, 24_999_999, 25_000_000, 25_000_001, 4_294_967_295)),
+) for value in values)
 
 DENSITIES = (5, 50, 500, 5_000, 50_000)
 SPREADS = (1, 2, 8, 50, 500, 5_000, 65_536)
@@ -49,10 +46,15 @@ MARKS = (0, 1, 2, 255, 3, 16, 128, 254)
 ROW_COUNTS = (4, 49, 499, 4_999, 49_999, 1_000_000)
 WRONG_DIGITS = (0, 47, 58, 64, 65, 66, 67, 68, 69, 70, 96, 103, 255, 10)
 WRONG_LINE_ENDS = (0, 47, 58, 64, 65, 66, 67, 68, 69, 70, 96, 103, 255, 13, 48, 57, 97, 102, 11)
-CORNERS = (0, 63, 4_032, 4_095)
+CORNERS = (0, g.COLUMNS - 1, g.PLACES - g.COLUMNS, g.PLACES - 1)
 
-ALL_ONES = 2 ** 64 - 1
-TOP_BIT = 2 ** 63
+ALL_ONES = 2 ** g.COLUMNS - 1
+TOP_BIT = 2 ** (g.COLUMNS - 1)
+LAST_ROW = g.ROWS - 1
+NO_PLACE = g.PLACES
+
+# Longer frame buffers are so by a draw below this.
+LONGER_FRAMES = 24
 
 
 # ---------------------------------------------------------------------------
@@ -100,28 +102,27 @@ def plain_case(source):
     case.speed = source.between(*ranges[source.below(4)])
     ranges = ((100, 10_000), (10_001, 1_000_000), (1_000_001, 25_000_000))
     case.cell_area = source.between(*ranges[source.below(3)])
-    case.mark = 1 if source.below(4) == 0 else 0
+    case.controlled = 1 if source.below(4) == 0 else 0
     a, b, c, d = source.below(3), source.below(3), source.below(2), source.below(3)
     case.word = offered_word(a, b, c, d)
-    case.first_row = source.below(64)
-    case.last_row = case.first_row + source.below(64 - case.first_row)
+    case.first_row = source.below(g.ROWS)
+    case.last_row = case.first_row + source.below(g.ROWS - case.first_row)
     case.row_marks = source.draw_64()
-    case.spread = SPREADS[source.below(7)]
+    case.spread = SPREADS[source.below(len(SPREADS))]
     case.drawn_rows = 0
     case.base = 0
-    case.place_1, case.count_1 = 4_096, 0
-    case.place_2, case.count_2 = 4_096, 0
-    case.damage_place, case.damage_byte = 33_959, 10
-    case.text_length = 33_959
-    case.counts_length = 4_096
-    case.footprint_length = 64
-    case.frame_length = 41
+    case.place_1, case.count_1 = NO_PLACE, 0
+    case.place_2, case.count_2 = NO_PLACE, 0
+    case.damage_place, case.damage_byte = g.TEXT_LENGTH, 10
+    case.text_length = g.TEXT_LENGTH
+    case.lent_lengths = g.LENT_LENGTHS
+    case.frame_length = g.FRAME_LENGTH
     return case
 
 
 def calm(case):
     case.cell_area = 1_000_000
-    case.mark = 0
+    case.controlled = 0
     case.word = 0
     case.row_marks |= TOP_BIT
     case.spread = 3
@@ -136,7 +137,8 @@ def block(case, first_row, last_row, row_marks):
 
 
 def one_cell(case, place):
-    block(case, place // 64, place // 64, 2 ** (63 - place % 64))
+    row, column = divmod(place, g.COLUMNS)
+    block(case, row, row, TOP_BIT >> column)
 
 
 def kind_0(case, i, source):
@@ -152,39 +154,32 @@ def kind_2(case, i, source):
     """Edges of the ranges."""
     calm(case)
     set_aircraft(case, COLUMN_AIRCRAFT[1])
-    field, value = EDGES[i % 36]
-    if field == 0:
-        case.dimension = value
-    elif field == 1:
-        case.mass = value
-    elif field == 2:
-        case.speed = value
-    else:
-        case.cell_area = value
+    setattr(case, *EDGES[i % len(EDGES)])
 
 
 def kind_3(case, i, source):
     """Flagged aircraft, calm map."""
     calm(case)
-    set_aircraft(case, FLAGGED_AIRCRAFT[i % 48])
+    set_aircraft(case, FLAGGED_AIRCRAFT[i % len(FLAGGED_AIRCRAFT)])
 
 
 def kind_4(case, i, source):
     """Flagged aircraft, plain map."""
-    set_aircraft(case, FLAGGED_AIRCRAFT[i % 48])
+    set_aircraft(case, FLAGGED_AIRCRAFT[i % len(FLAGGED_AIRCRAFT)])
 
 
 def kind_5(case, i, source):
     """Aircraft at the area limits, by a few grams."""
     calm(case)
-    set_aircraft(case, LIMIT_AIRCRAFT[i % 16])
-    case.mass = case.mass + i // 16 - 3
+    turn, entry = divmod(i, len(LIMIT_AIRCRAFT))
+    set_aircraft(case, LIMIT_AIRCRAFT[entry])
+    case.mass = case.mass + turn - 3
 
 
 def kind_6(case, i, source):
     """Row boundaries by one person."""
     set_aircraft(case, COLUMN_AIRCRAFT[0])
-    case.mark = 0
+    case.controlled = 0
     case.word = 0
     density = DENSITIES[i % 5]
     if i < 50:
@@ -192,7 +187,7 @@ def kind_6(case, i, source):
     else:
         case.cell_area = source.between(100, 20_000_000)
     people = (density * case.cell_area + 999_999) // 1_000_000
-    case.place_1 = source.below(4_096)
+    case.place_1 = source.below(g.PLACES)
     case.count_1 = people - 1 + (i // 5) % 2
     one_cell(case, case.place_1)
 
@@ -201,14 +196,14 @@ def kind_7(case, i, source):
     """Ties for the largest count."""
     set_aircraft(case, COLUMN_AIRCRAFT[i % 5])
     case.spread = 1 + source.below(3)
-    case.place_1 = source.below(4_096)
-    case.place_2 = source.below(4_096)
+    case.place_1 = source.below(g.PLACES)
+    case.place_2 = source.below(g.PLACES)
     case.count_1 = 100 + source.below(100)
     case.count_2 = case.count_1
     if i % 3 == 0:
         case.drawn_rows = 1
     elif i % 3 == 2:
-        block(case, 0, 63, ALL_ONES)
+        block(case, 0, LAST_ROW, ALL_ONES)
 
 
 def kind_8(case, i, source):
@@ -216,16 +211,16 @@ def kind_8(case, i, source):
     calm(case)
     set_aircraft(case, COLUMN_AIRCRAFT[0])
     case.cell_area = 25_000_000
-    case.place_1 = source.below(4_096)
+    case.place_1 = source.below(g.PLACES)
     case.count_1 = COUNT_EDGES[i % 4]
-    other = (case.place_1 + 1 + source.below(4_095)) % 4_096
+    other = (case.place_1 + 1 + source.below(g.PLACES - 1)) % g.PLACES
     one_cell(case, case.place_1 if (i // 4) % 2 == 1 else other)
 
 
 def kind_9(case, i, source):
     """Controlled-ground marks."""
     set_aircraft(case, COLUMN_AIRCRAFT[i % 5])
-    case.mark = MARKS[i % 8]
+    case.controlled = MARKS[i % 8]
 
 
 def kind_10(case, i, source):
@@ -242,7 +237,7 @@ def kind_11(case, i, source):
     """Every offered word at the low classes."""
     calm(case)
     set_aircraft(case, COLUMN_AIRCRAFT[i % 5])
-    case.mark = (i // 5) % 2
+    case.controlled = (i // 5) % 2
     j = i % 54
     case.word = offered_word(j % 3, (j // 3) % 3, (j // 9) % 2, j // 18)
 
@@ -250,8 +245,8 @@ def kind_11(case, i, source):
 def class_entry(case, i, source):
     set_aircraft(case, COLUMN_AIRCRAFT[i % 5])
     case.cell_area = 1_000_000
-    case.mark = (i // 30) % 2
-    case.place_1 = source.below(4_096)
+    case.controlled = (i // 30) % 2
+    case.place_1 = source.below(g.PLACES)
     case.count_1 = ROW_COUNTS[(i // 5) % 6]
     one_cell(case, case.place_1)
 
@@ -269,58 +264,55 @@ def kind_13(case, i, source):
 
 def kind_14(case, i, source):
     """A wrong byte in a digit's place."""
-    case.damage_byte = WRONG_DIGITS[i % 14]
-    part = (i // 14) % 3
-    if part == 0:
-        case.damage_place = source.below(38)
-    elif part == 1:
-        line = source.below(64)
-        case.damage_place = 39 + 17 * line + source.below(16)
-    else:
-        line = source.below(64)
-        case.damage_place = 1_127 + 513 * line + source.below(512)
+    turn, entry = divmod(i, len(WRONG_DIGITS))
+    case.damage_byte = WRONG_DIGITS[entry]
+    part = g.BLOCKS[turn % len(g.BLOCKS)]
+    line = source.below(part.lines) if part.lines > 1 else 0
+    case.damage_place = g.text_place(part.name, line, source.below(g.line_digits(part.name)))
 
 
 def kind_15(case, i, source):
     """A wrong byte in a line end's place."""
-    case.damage_byte = WRONG_LINE_ENDS[i % 19]
-    part = (i // 19) % 4
-    line = source.below(64)
-    if part == 0:
-        case.damage_place = 38
-    elif part == 1:
-        case.damage_place = 55 + 17 * line
-    elif part == 2:
-        case.damage_place = 1_639 + 513 * line
-    else:
-        case.damage_place = 33_958
+    turn, entry = divmod(i, len(WRONG_LINE_ENDS))
+    case.damage_byte = WRONG_LINE_ENDS[entry]
+    line = source.below(g.ROWS)
+    places = [g.text_place(part.name, line % part.lines, g.line_digits(part.name)) for part in g.BLOCKS]
+    places.append(g.TEXT_LENGTH - 1)
+    case.damage_place = places[turn % len(places)]
 
 
 def kind_16(case, i, source):
     """Text lengths."""
-    drawn = source.below(33_959)
-    case.text_length = (0, 33_958, 33_960, drawn, 33_959)[i % 5]
+    drawn = source.below(g.TEXT_LENGTH)
+    case.text_length = (0, g.TEXT_LENGTH - 1, g.TEXT_LENGTH + 1, drawn, g.TEXT_LENGTH)[i % 5]
     if i >= 50:
         case.damage_place, case.damage_byte = 0, 103
 
 
+# The lent buffers that have a wrong length, turn by turn.
+LENT_TURNS = (
+    {"counts": 0}, {"counts": g.PLACES - 1}, {"counts": g.PLACES + 1},
+    {"marks": 0}, {"marks": g.ROWS - 1}, {"marks": g.ROWS + 1},
+    {"counts": g.PLACES - 1, "marks": g.ROWS + 1}, {},
+)
+
+
 def kind_17(case, i, source):
     """Lengths of the count and footprint buffers."""
-    case.counts_length = (0, 4_095, 4_097, 4_096, 4_096, 4_096, 4_095, 4_096)[i % 8]
-    case.footprint_length = (64, 64, 64, 0, 63, 65, 65, 64)[i % 8]
+    case.lent_lengths = case.lent_lengths._replace(**LENT_TURNS[i % len(LENT_TURNS)])
     if i >= 40:
-        case.damage_place, case.damage_byte = 33_958, 48
+        case.damage_place, case.damage_byte = g.TEXT_LENGTH - 1, 48
     if i >= 80:
-        case.text_length = 33_958
+        case.text_length = g.TEXT_LENGTH - 1
 
 
 def kind_18(case, i, source):
     """Lengths of the frame buffer."""
-    drawn = source.below(24)
-    if i < 41:
+    drawn = source.below(LONGER_FRAMES)
+    if i < g.FRAME_LENGTH:
         case.frame_length = i
     else:
-        case.frame_length = 41 + drawn if i % 2 == 1 else drawn
+        case.frame_length = g.FRAME_LENGTH + drawn if i % 2 == 1 else drawn
     if i >= 70:
         case.text_length = 0
 
@@ -329,23 +321,23 @@ def kind_19(case, i, source):
     """Shapes of the footprint."""
     set_aircraft(case, COLUMN_AIRCRAFT[0])
     case.cell_area = 25_000_000
-    case.mark = 0
+    case.controlled = 0
     case.spread = 5_000
-    line = source.below(64)
-    place = source.below(4_096)
+    line = source.below(g.ROWS)
+    place = source.below(g.PLACES)
     shape = i % 10
-    if shape < 4:
+    if shape < len(CORNERS):
         one_cell(case, CORNERS[shape])
     elif shape == 4:
-        block(case, 0, 63, ALL_ONES)
+        block(case, 0, LAST_ROW, ALL_ONES)
     elif shape == 5:
-        block(case, 0, 63, 0)
+        block(case, 0, LAST_ROW, 0)
     elif shape == 6:
         block(case, line, line, ALL_ONES)
     elif shape == 7:
-        block(case, 0, 63, TOP_BIT)
+        block(case, 0, LAST_ROW, TOP_BIT)
     elif shape == 8:
-        block(case, 0, 63, 1)
+        block(case, 0, LAST_ROW, 1)
     else:
         one_cell(case, place)
 
@@ -357,7 +349,7 @@ def kind_20(case, i, source):
     a = source.below(256)
     b = source.below(256)
     wrong = a & b
-    place = source.below(4_096)
+    place = source.below(g.PLACES)
     if wrong & 1:
         case.dimension = 49
     if wrong & 2:
@@ -371,14 +363,14 @@ def kind_20(case, i, source):
     if wrong & 32:
         case.row_marks = 0
     if wrong & 64:
-        case.mark = 2
+        case.controlled = 2
     if wrong & 128:
         case.word = 65_535
 
 
 def kind_21(case, i, source):
     """Any byte at any place."""
-    case.damage_place = source.below(33_959)
+    case.damage_place = source.below(g.TEXT_LENGTH)
     case.damage_byte = source.below(256)
 
 
@@ -393,7 +385,7 @@ def kind_22(case, i, source):
     if source.below(4) == 0:
         case.cell_area = source.draw_32()
     if source.below(4) == 0:
-        case.mark = source.below(256)
+        case.controlled = source.below(256)
     if source.below(4) == 0:
         case.word = source.below(65_536)
 
@@ -402,9 +394,9 @@ def kind_23(case, i, source):
     """Many people."""
     set_aircraft(case, COLUMN_AIRCRAFT[i % 2])
     case.cell_area = 25_000_000
-    case.mark = 0
-    block(case, 0, 63, ALL_ONES)
-    place = source.below(4_096)
+    case.controlled = 0
+    block(case, 0, LAST_ROW, ALL_ONES)
+    place = source.below(g.PLACES)
     choice = i % 4
     if choice == 0:
         case.base, case.spread = 1_000_000, 1
@@ -428,37 +420,36 @@ KINDS = (kind_0, kind_1, kind_2, kind_3, kind_4, kind_5, kind_6, kind_7, kind_8,
 # ---------------------------------------------------------------------------
 
 def make_case(number):
-    """The case of this number, with its footprint rows, counts and text."""
+    """The case of this number, with its text and what a reading of it fills."""
     source = Source(number)
     case = plain_case(source)
     KINDS[number // 100](case, number % 100, source)
     if case.drawn_rows == 1:
-        case.rows = [source.draw_64() for _ in range(64)]
+        rows = [source.draw_64() for _ in range(g.ROWS)]
     else:
-        case.rows = [case.row_marks if case.first_row <= row <= case.last_row else 0
-                     for row in range(64)]
-    case.counts = [case.base + source.below(case.spread) for _ in range(4_096)]
-    if case.place_1 < 4_096:
-        case.counts[case.place_1] = case.count_1
-    if case.place_2 < 4_096:
-        case.counts[case.place_2] = case.count_2
-    fields = g.Fields(case.dimension, case.mass, case.speed, case.cell_area, case.mark, case.word)
-    text = bytearray(g.text_of_fields(fields, case.rows, case.counts) + b"\n")
+        rows = [case.row_marks if case.first_row <= row <= case.last_row else 0
+                for row in range(g.ROWS)]
+    counts = [case.base + source.below(case.spread) for _ in range(g.PLACES)]
+    for place, count in ((case.place_1, case.count_1), (case.place_2, case.count_2)):
+        if place < NO_PLACE:
+            counts[place] = count
+    case.fields = g.Fields(*(getattr(case, name) for name in g.Fields._fields))
+    case.lent = g.Lent(counts=counts, marks=rows)
+    text = bytearray(g.text_of_fields(case.fields, case.lent) + b"\n")
     text[case.damage_place] = case.damage_byte
     case.text = bytes(text[:case.text_length])
     return case
 
 
 def answer_of(case):
-    return g.case(case.text, [0] * case.counts_length, [0] * case.footprint_length,
-                  bytes(case.frame_length))
+    return g.case(case.text, g.zeros(case.lent_lengths), bytes(case.frame_length))
 
 
 def printed_line(answer):
     """The line that must be printed; under 15 the program prints it itself."""
     if answer.refusal == 15:
         return b"0f\n"
-    return answer.frame[:41 if answer.refusal == 0 else 3]
+    return answer.frame[:g.printed_length(answer.refusal)]
 
 
 def line_of_number(number):

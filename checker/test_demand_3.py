@@ -114,9 +114,9 @@ class WorkingsTest(unittest.TestCase):
         source = random.Random(SEED + 2)
         for number in range(200):
             spread = source.choice((1, 5, 500, 60_000, 1_000_002))
-            counts = [source.randrange(spread) for _ in range(4096)]
-            marks = source.choice(([0] * 64, one_cell(source.randrange(4096)),
-                                   [source.getrandbits(64) for _ in range(64)]))
+            counts = [source.randrange(spread) for _ in range(g.PLACES)]
+            marks = source.choice(([0] * g.ROWS, one_cell(source.randrange(g.PLACES)),
+                                   [source.getrandbits(64) for _ in range(g.ROWS)]))
             cell_area = source.choice((99, 100, 10_000, 1_000_000, 25_000_000))
             mark, word = source.choice((0, 0, 1, 2)), source.choice(self.words)
             column = source.choice((2, 3, 4, 5))

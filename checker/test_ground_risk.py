@@ -24,13 +24,13 @@ def lines(w, m, v):
 
 
 def one_cell(place):
-    marks = [0] * 64
-    marks[place // 64] = 1 << (63 - place % 64)
+    marks = [0] * g.ROWS
+    marks[place // g.COLUMNS] = 1 << (g.COLUMNS - 1 - place % g.COLUMNS)
     return marks
 
 
 def some_counts(**people):
-    counts = [0] * 4096
+    counts = [0] * g.PLACES
     for name, count in people.items():
         counts[int(name[1:])] = count
     return counts
@@ -204,7 +204,7 @@ class FootprintTest(unittest.TestCase):
         self.assertEqual(g.table_row(1_000_000, 20_000_001), 6)
 
     def test_refusals(self):
-        counts, marks = [0] * 4096, one_cell(0)
+        counts, marks = [0] * g.PLACES, one_cell(0)
         for number, wrong in (
                 (5, (counts[:-1], marks, 100)), (5, (counts + [0], marks, 100)),
                 (5, ([], marks, 100)), (5, (counts, marks[:-1], 100)),
@@ -214,10 +214,10 @@ class FootprintTest(unittest.TestCase):
                 (7, (some_counts(p0=1_000_001), marks, 100)),
                 (7, (some_counts(p1=1_000_001), marks, 100)),
                 (7, (some_counts(p4095=U32), marks, 25_000_000)),
-                (8, (counts, [0] * 64, 100)),
+                (8, (counts, [0] * g.ROWS, 100)),
                 # the order
-                (5, ([U32], marks, 0)), (6, (some_counts(p0=U32), [0] * 64, 99)),
-                (7, (some_counts(p4095=1_000_001), [0] * 64, 100))):
+                (5, ([U32], marks, 0)), (6, (some_counts(p0=U32), [0] * g.ROWS, 99)),
+                (7, (some_counts(p4095=1_000_001), [0] * g.ROWS, 100))):
             self.assertEqual(g.footprint(*wrong), (number, 0, 0, 0, 0))
         self.assertEqual(g.footprint(counts, marks, 100), (0, 2, 0, 0, 1))
         self.assertEqual(g.footprint(counts, marks, 25_000_000), (0, 2, 0, 0, 1))
@@ -226,16 +226,16 @@ class FootprintTest(unittest.TestCase):
 
     def test_corners(self):
         for row, bits, place in ((0, 1 << 63, 0), (0, 1, 63), (63, 1 << 63, 4032), (63, 1, 4095)):
-            marks = [0] * 64
+            marks = [0] * g.ROWS
             marks[row] = bits
             self.assertEqual(marks, one_cell(place))
-            counts = list(range(4096))
+            counts = list(range(g.PLACES))
             self.assertEqual(g.footprint(counts, marks, 25_000_000).place, place)
             self.assertEqual(g.footprint(counts, marks, 25_000_000).people, place)
 
     def test_ties_and_sums(self):
-        every = [U64] * 64
-        self.assertEqual(g.footprint([1_000_000] * 4096, every, 25_000_000),
+        every = [U64] * g.ROWS
+        self.assertEqual(g.footprint([1_000_000] * g.PLACES, every, 25_000_000),
                          (0, 6, 0, 4_096_000_000, 4096))
         counts = some_counts(p5=9, p100=9, p101=8, p4095=9)
         self.assertEqual(g.footprint(counts, every, 1_000_000), (0, 3, 5, 35, 4096))
@@ -243,7 +243,7 @@ class FootprintTest(unittest.TestCase):
         not_5[0] -= 1 << (63 - 5)
         self.assertEqual(g.footprint(counts, not_5, 1_000_000), (0, 3, 100, 26, 4095))
         # No people: the first marked cell has the largest count, zero.
-        self.assertEqual(g.footprint([0] * 4096, [0] * 63 + [6], 100), (0, 2, 4093, 0, 2))
+        self.assertEqual(g.footprint([0] * g.PLACES, [0] * (g.ROWS - 1) + [6], 100), (0, 2, 4093, 0, 2))
 
 
 class ClassTest(unittest.TestCase):
@@ -333,8 +333,8 @@ class AssessmentTest(unittest.TestCase):
                 (3, (50, 50, 99_999, [], [], 0, 2, 1)),
                 (4, (100_000, 25_000_000, 40_000, [], [], 0, 2, 1)),
                 (5, (*self.small, [], marks, 0, 2, 1)), (6, (*self.small, counts, marks, 0, 2, 1)),
-                (7, (*self.small, [U32] * 4096, [0] * 64, 100, 2, 1)),
-                (8, (*self.small, counts, [0] * 64, 100, 2, 1)),
+                (7, (*self.small, [U32] * g.PLACES, [0] * g.ROWS, 100, 2, 1)),
+                (8, (*self.small, counts, [0] * g.ROWS, 100, 2, 1)),
                 (9, (*self.large, crowd, marks, 100, 2, 1)),
                 (10, (*self.large, crowd, marks, 100, 0, 1)),
                 (11, (*self.large, crowd, marks, 100, 1, 1)),
@@ -351,7 +351,7 @@ class AssessmentTest(unittest.TestCase):
         self.assertEqual(g.working(3, crowd, marks, 1_000_000, 0, 2), (10, None, None))
         self.assertEqual(g.working(3, crowd, marks, 1_000_000, 1, 1), (11, 2, None))
         self.assertEqual(g.working(3, crowd, marks, 1_000_000, 2, 1), (9, None, None))
-        self.assertEqual(g.working(3, crowd, [0] * 64, 1_000_000, 2, 1), (8, None, None))
+        self.assertEqual(g.working(3, crowd, [0] * g.ROWS, 1_000_000, 2, 1), (8, None, None))
 
 
 if __name__ == "__main__":

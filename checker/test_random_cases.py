@@ -38,7 +38,18 @@ def listing_after(words):
     return tuple(number(part) for part in found.group(1).split(";"))
 
 
+OLD = g.zeros()
+
+
 class PageTest(unittest.TestCase):
+    def test_lengths_and_parts(self):
+        rows = table_rows(section("Lengths and places"))
+        lengths = [number(row[1]) for row in rows if len(row) == 2]
+        self.assertEqual(lengths, [g.ROWS, g.COLUMNS, g.PLACES, g.TEXT_LENGTH, g.FRAME_LENGTH, g.REFUSAL_LENGTH])
+        parts = [(name, number(lines), number(digits)) for name, lines, digits in (row for row in rows if len(row) == 3)
+                 if name != "Part" and "-" not in name]
+        self.assertEqual(parts, [(part.name, part.lines, sum(part.widths)) for part in g.BLOCKS])
+
     def test_aircraft_tables(self):
         for title, table in (("The column table", r.COLUMN_AIRCRAFT),
                              ("The flagged table", r.FLAGGED_AIRCRAFT),
@@ -47,8 +58,7 @@ class PageTest(unittest.TestCase):
             self.assertEqual(rows, [(entry, *aircraft) for entry, aircraft in enumerate(table)])
 
     def test_edge_table(self):
-        names = ("dimension", "mass", "speed", "cell area")
-        rows = [(number(entry), names.index(field), number(value))
+        rows = [(number(entry), field.replace(" ", "_"), number(value))
                 for entry, field, value in table_rows(section("The edge table"))]
         self.assertEqual(rows, [(entry, *edge) for entry, edge in enumerate(r.EDGES)])
 
@@ -108,26 +118,28 @@ class CasesTest(unittest.TestCase):
         for case_number in range(0, r.CASES, 7):
             case = r.make_case(case_number)
             self.assertLessEqual(case.first_row, case.last_row)
-            self.assertLessEqual(case.last_row, 63)
-            self.assertEqual(len(case.rows), 64)
-            self.assertEqual(len(case.counts), 4_096)
-            self.assertLess(max(case.counts), 2 ** 32)
-            self.assertLess(max(case.rows), 2 ** 64)
-            self.assertLessEqual(case.place_1, 4_096)
-            self.assertLessEqual(case.place_2, 4_096)
-            self.assertLessEqual(case.damage_place, 33_959)
+            self.assertLess(case.last_row, g.ROWS)
+            self.assertEqual(tuple(map(len, case.lent)), g.LENT_LENGTHS)
+            for part in g.BLOCKS:
+                if part.fills:
+                    self.assertLess(max(getattr(case.lent, part.fills)), 16 ** max(part.widths))
+            for value, (_, width) in zip(case.fields, g.LINE_1):
+                self.assertLess(value, 16 ** width)
+            self.assertLessEqual(case.place_1, r.NO_PLACE)
+            self.assertLessEqual(case.place_2, r.NO_PLACE)
+            self.assertLessEqual(case.damage_place, g.TEXT_LENGTH)
             self.assertLess(case.damage_byte, 256)
             self.assertEqual(len(case.text), case.text_length)
-            self.assertLessEqual(case.text_length, 33_960)
-            self.assertLessEqual(case.counts_length, 4_097)
-            self.assertLessEqual(case.footprint_length, 65)
-            self.assertLessEqual(case.frame_length, 64)
+            self.assertLessEqual(case.text_length, g.TEXT_LENGTH + 1)
+            for length, right in zip(case.lent_lengths, g.LENT_LENGTHS):
+                self.assertLessEqual(length, right + 1)
+            self.assertLess(case.frame_length, g.FRAME_LENGTH + r.LONGER_FRAMES)
 
     def test_printed_line(self):
-        frame = b"0" * 40 + b"\n"
-        self.assertEqual(r.printed_line(g.CaseAnswer(0, [], [], frame + b"rest")), frame)
-        self.assertEqual(r.printed_line(g.CaseAnswer(10, [], [], b"0a\n" + frame)), b"0a\n")
-        self.assertEqual(r.printed_line(g.CaseAnswer(15, [], [], b"")), b"0f\n")
+        frame = b"0" * (g.FRAME_LENGTH - 1) + b"\n"
+        self.assertEqual(r.printed_line(g.CaseAnswer(0, OLD, frame + b"rest")), frame)
+        self.assertEqual(r.printed_line(g.CaseAnswer(10, OLD, b"0a\n" + frame)), b"0a\n")
+        self.assertEqual(r.printed_line(g.CaseAnswer(15, OLD, b"")), b"0f\n")
 
 
 class ExamplesTest(unittest.TestCase):

@@ -7,11 +7,22 @@
 #include <stdio.h>
 #include <string.h>
 
-/* The number in the frame's digits from a place on. */
-static unsigned long field(const uint8_t *frame, size_t at, size_t digits) {
+/* A printed frame, field by field as the header lists them. */
+#define MEMBER(name, digits) unsigned long name;
+struct frame { NB_FRAME(MEMBER) };
+
+/* The number in the next digits. */
+static unsigned long number(const uint8_t **at, int digits) {
     unsigned long value = 0;
-    for (size_t i = at; i < at + digits; i++) value = value * 16 + (frame[i] <= '9' ? frame[i] - '0' : frame[i] - 'a' + 10);
+    for (; digits > 0; digits--, (*at)++) value = value * 16 + (**at <= '9' ? **at - '0' : **at - 'a' + 10);
     return value;
+}
+
+static struct frame read_frame(const uint8_t *at) {
+    struct frame frame;
+#define READ(name, digits) frame.name = number(&at, digits);
+    NB_FRAME(READ)
+    return frame;
 }
 
 static const char *const GROUND[] = {
@@ -25,15 +36,14 @@ static const char *const GROUND[] = {
     "50,000 people per square kilometre or more",
 };
 
-static void say(const uint8_t *frame) {
-    unsigned long row = field(frame, 22, 2), place = field(frame, 24, 4), last = field(frame, 38, 2);
-    printf("critical area: %lu to %lu square centimetres\n", field(frame, 2, 8), field(frame, 10, 8));
-    printf("column: %lu%s\n", field(frame, 18, 2), field(frame, 20, 2) ? ", the exact one may be the column before" : "");
-    printf("table row: %lu, %s\n", row, row <= 7 ? GROUND[row] : "");
-    printf("most people: in the cell at row %lu, column %lu\n", place / 64, place % 64);
-    printf("people under the footprint: %lu\n", field(frame, 28, 8));
-    printf("intrinsic ground risk class: %lu\n", field(frame, 36, 2));
-    printf("final ground risk class: %d\n", last == 255 ? -1 : (int)last);
+static void say(struct frame f) {
+    printf("critical area: %lu to %lu square centimetres\n", f.low, f.high);
+    printf("column: %lu%s\n", f.column, f.flag ? ", the exact one may be the column before" : "");
+    printf("table row: %lu, %s\n", f.row_used, f.row_used <= 7 ? GROUND[f.row_used] : "");
+    printf("most people: in the cell at row %lu, column %lu\n", f.place / NB_MAP_COLUMNS, f.place % NB_MAP_COLUMNS);
+    printf("people under the footprint: %lu\n", f.people);
+    printf("intrinsic ground risk class: %lu\n", f.intrinsic);
+    printf("final ground risk class: %d\n", f.final_class == 255 ? -1 : (int)f.final_class);
 }
 
 int main(int argc, char **argv) {
@@ -54,6 +64,6 @@ int main(int argc, char **argv) {
         printf("refusal %u: %s\n", refusal, nb_refusal_message(refusal));
         return 1;
     }
-    say(frame);
+    say(read_frame(frame));
     return 0;
 }

@@ -49,8 +49,6 @@ struct arena {
     int heap;
 };
 
-static struct arena text_arena, counts_arena, marks_arena, frame_arena;
-
 static struct arena arena_of(size_t most) {
     size_t page = (size_t)sysconf(_SC_PAGESIZE);
     struct arena arena = {0};
@@ -114,65 +112,89 @@ static void take(void *into, size_t length) {
     if (length != 0 && fread(into, 1, length, file) != length) fail("the file of calls ends too early");
 }
 
-static uint8_t take_8(void) { uint8_t n; take(&n, 1); return n; }
-static uint16_t take_16(void) { uint16_t n; take(&n, 2); return n; }
-static uint32_t take_32(void) { uint32_t n; take(&n, 4); return n; }
-static uint64_t take_64(void) { uint64_t n; take(&n, 8); return n; }
+#define TAKE(type, name) type name; take(&name, sizeof name)
 
-static nb_sheet_t take_sheet(void) {
-    nb_sheet_t sheet;
-    memset(&sheet, 0, sizeof sheet);
-    take(&sheet, 6 * sizeof(nb_bracket_t));
-    sheet.column = take_8();
-    sheet.flag = take_8();
-    return sheet;
+/* ---- The structs, by lists of their fields ---- */
+
+/* Each struct's fields in order: a NUMBER, or a PART that is a struct with a list of its own. */
+#define BRACKET(NUMBER, PART) NUMBER(low) NUMBER(high)
+#define SHEET(NUMBER, PART) \
+    PART(bracket, glide) PART(bracket, run) PART(bracket, saving) PART(bracket, slide) PART(bracket, total) PART(bracket, area) \
+    NUMBER(column) NUMBER(flag)
+#define SHEET_ANSWER(NUMBER, PART) NUMBER(refusal) PART(sheet, sheet)
+#define FOOTPRINT(NUMBER, PART) NUMBER(refusal) NUMBER(row) NUMBER(place) NUMBER(people) NUMBER(cells)
+#define INTRINSIC_CLASS(NUMBER, PART) NUMBER(refusal) NUMBER(class_number)
+#define FINAL_CLASS(NUMBER, PART) NUMBER(refusal) NUMBER(class_number)
+#define ASSESSMENT(NUMBER, PART) \
+    NUMBER(refusal) PART(sheet, sheet) PART(footprint, footprint) NUMBER(row_used) NUMBER(intrinsic) NUMBER(final_class)
+#define CASE_HEAD(NUMBER, PART) \
+    NUMBER(dimension) NUMBER(mass) NUMBER(speed) NUMBER(cell_area) NUMBER(controlled) NUMBER(word)
+#define READING(NUMBER, PART) NUMBER(refusal) PART(case_head, head)
+#define FRAME_FIELDS(NUMBER, PART) \
+    NUMBER(low) NUMBER(high) NUMBER(column) NUMBER(flag) NUMBER(row_used) NUMBER(place) NUMBER(people) NUMBER(intrinsic) \
+    NUMBER(final_class)
+
+/* A number's bytes as a number, whatever its type. */
+static uint64_t bits(const void *number, size_t size) {
+    uint64_t value = 0;
+    memcpy(&value, number, size);
+    return value;
 }
-
-static nb_footprint_t take_footprint(void) {
-    nb_footprint_t f;
-    f.refusal = take_8();
-    f.row = take_8();
-    f.place = take_32();
-    f.people = take_64();
-    f.cells = take_32();
-    return f;
-}
-
-/* ---- Comparison, field by field, since structs have gaps ---- */
 
 static void same(const char *field, uint64_t got, uint64_t wanted) {
     if (got != wanted) fail("%s is %llu, not %llu", field, (unsigned long long)got, (unsigned long long)wanted);
 }
 
-static void same_bracket(const char *line, nb_bracket_t got, nb_bracket_t wanted) {
-    same(line, got.low, wanted.low);
-    same(line, got.high, wanted.high);
-}
+#define TAKE_NUMBER(field) take(&value.field, sizeof value.field);
+#define TAKE_PART(part, field) value.field = take_##part();
+#define SAME_NUMBER(field) same(#field, bits(&got->field, sizeof got->field), bits(&wanted->field, sizeof wanted->field));
+#define SAME_PART(part, field) same_##part(&got->field, &wanted->field);
 
-static void same_sheet(const nb_sheet_t *got, const nb_sheet_t *wanted) {
-    same_bracket("glide", got->glide, wanted->glide);
-    same_bracket("run", got->run, wanted->run);
-    same_bracket("saving", got->saving, wanted->saving);
-    same_bracket("slide", got->slide, wanted->slide);
-    same_bracket("total", got->total, wanted->total);
-    same_bracket("area", got->area, wanted->area);
-    same("column", got->column, wanted->column);
-    same("flag", got->flag, wanted->flag);
-}
+/* take_NAME reads a struct from the file, where it has no gaps; same_NAME compares two, field by field, since they have gaps. */
+#define STRUCT(name, FIELDS) \
+    static inline nb_##name##_t take_##name(void) { \
+        nb_##name##_t value; \
+        FIELDS(TAKE_NUMBER, TAKE_PART) \
+        return value; \
+    } \
+    static inline void same_##name(const nb_##name##_t *got, const nb_##name##_t *wanted) { FIELDS(SAME_NUMBER, SAME_PART) }
 
-static void same_footprint(const nb_footprint_t *got, const nb_footprint_t *wanted) {
-    same("footprint refusal", got->refusal, wanted->refusal);
-    same("row", got->row, wanted->row);
-    same("place", got->place, wanted->place);
-    same("people", got->people, wanted->people);
-    same("cells", got->cells, wanted->cells);
-}
+STRUCT(bracket, BRACKET)
+STRUCT(sheet, SHEET)
+STRUCT(sheet_answer, SHEET_ANSWER)
+STRUCT(footprint, FOOTPRINT)
+STRUCT(intrinsic_class, INTRINSIC_CLASS)
+STRUCT(final_class, FINAL_CLASS)
+STRUCT(assessment, ASSESSMENT)
+STRUCT(case_head, CASE_HEAD)
+STRUCT(reading, READING)
+STRUCT(frame_fields, FRAME_FIELDS)
+
+/* ---- The lent buffers, by a list ---- */
+
+/* The buffers of a map, in the order in which they are lent: name, type of an element, right length. */
+#define MAP_BUFFERS(BUFFER) BUFFER(counts, uint32_t, NB_MAP_CELLS) BUFFER(marks, uint64_t, NB_MAP_ROWS)
+
+/* What an accepted reading leaves, and the map that is lent to be read, which may be lent with one element more. */
+#define DECLARE(name, type, right) \
+    static struct arena name##_arena; \
+    static type read_##name[right], map_##name[(right) + 1];
+MAP_BUFFERS(DECLARE)
+static struct arena text_arena, frame_arena;
+static uint8_t text[NB_TEXT_LENGTH + 1];
+
+#define TAKE_LENGTH(name, type, right) TAKE(uint32_t, name##_len);
+#define LEND_WRITTEN(name, type, right) type *name = lend(&name##_arena, sizeof(type) * name##_len, NULL);
+#define LEND_READ(name, type, right) const type *name = lend(&name##_arena, sizeof(type) * name##_len, map_##name);
+#define FIRST(name, type, right) name, name##_len,
+#define NEXT(name, type, right) , name, name##_len
+#define GIVE_BACK_FILLED(name, type, right) give_back(&name##_arena, #name, read_##name, filled ? sizeof read_##name : 0);
+#define GIVE_BACK_READ(name, type, right) give_back(&name##_arena, #name, map_##name, sizeof(type) * name##_len);
+#define TAKE_READ(name, type, right) take(read_##name, sizeof read_##name);
+#define TAKE_MAP(name, type, right) take(map_##name, sizeof map_##name);
+#define MAKE_ARENA(name, type, right) name##_arena = arena_of(sizeof map_##name);
 
 /* ---- The calls ---- */
-
-static uint8_t text[NB_TEXT_LENGTH + 1];
-static uint32_t read_counts[NB_MAP_CELLS], map_counts[NB_MAP_CELLS + 1];
-static uint64_t read_marks[NB_MAP_ROWS], map_marks[NB_MAP_ROWS + 1];
 
 static void starts(const char *name, uint8_t refusal) {
     snprintf(now, sizeof now, "%s, refusal %u expected", name, refusal);
@@ -183,147 +205,117 @@ static void starts(const char *name, uint8_t refusal) {
 /* Runs once for each placement that is tried. */
 #define EACH_PLACEMENT(heap) for (placement = (heap) ? HEAP : AT_END; placement <= ((heap) ? HEAP : AT_START); placement++)
 
-static void give_back_buffers(int filled) {
-    give_back(&counts_arena, "the count buffer", read_counts, filled ? sizeof read_counts : 0);
-    give_back(&marks_arena, "the footprint buffer", read_marks, filled ? sizeof read_marks : 0);
+/* What is written of a frame: its length, then the bytes. */
+static uint8_t written[NB_FRAME_LENGTH], written_len;
+
+static void take_written(void) {
+    take(&written_len, 1);
+    if (written_len > sizeof written) fail("more is written than a frame has");
+    take(written, written_len);
 }
 
 static void call_case(int heap) {
-    uint8_t written[NB_FRAME_LENGTH];
-    uint32_t text_len = take_32(), counts_len = take_32(), marks_len = take_32(), frame_len = take_32();
-    uint8_t answer = take_8(), filled = take_8(), written_len = take_8();
-    take(written, written_len);
+    TAKE(uint32_t, text_len);
+    MAP_BUFFERS(TAKE_LENGTH)
+    TAKE(uint32_t, frame_len);
+    TAKE(uint8_t, answer);
+    TAKE(uint8_t, filled);
+    take_written();
     EACH_PLACEMENT(heap) {
         starts("nb_case", answer);
         const uint8_t *t = lend(&text_arena, text_len, text);
-        uint32_t *c = lend(&counts_arena, 4 * (size_t)counts_len, NULL);
-        uint64_t *m = lend(&marks_arena, 8 * (size_t)marks_len, NULL);
-        uint8_t *f = lend(&frame_arena, frame_len, NULL);
-        same("answer", nb_case(t, text_len, c, counts_len, m, marks_len, f, frame_len), answer);
+        MAP_BUFFERS(LEND_WRITTEN)
+        uint8_t *frame = lend(&frame_arena, frame_len, NULL);
+        same("answer", nb_case(t, text_len MAP_BUFFERS(NEXT), frame, frame_len), answer);
         give_back(&text_arena, "the text", text, text_len);
-        give_back_buffers(filled);
+        MAP_BUFFERS(GIVE_BACK_FILLED)
         give_back(&frame_arena, "the frame buffer", written, written_len);
     }
 }
 
 static void call_reading(int heap) {
-    uint32_t text_len = take_32(), counts_len = take_32(), marks_len = take_32();
-    nb_reading_t wanted;
-    wanted.refusal = take_8();
-    wanted.head.dimension = take_32();
-    wanted.head.mass = take_32();
-    wanted.head.speed = take_32();
-    wanted.head.cell_area = take_32();
-    wanted.head.controlled = take_8();
-    wanted.head.word = take_16();
+    TAKE(uint32_t, text_len);
+    MAP_BUFFERS(TAKE_LENGTH)
+    nb_reading_t wanted = take_reading();
+    int filled = wanted.refusal == 0;
     EACH_PLACEMENT(heap) {
         starts("nb_read_case", wanted.refusal);
         const uint8_t *t = lend(&text_arena, text_len, text);
-        uint32_t *c = lend(&counts_arena, 4 * (size_t)counts_len, NULL);
-        uint64_t *m = lend(&marks_arena, 8 * (size_t)marks_len, NULL);
-        nb_reading_t got = nb_read_case(t, text_len, c, counts_len, m, marks_len);
-        same("refusal", got.refusal, wanted.refusal);
-        same("dimension", got.head.dimension, wanted.head.dimension);
-        same("mass", got.head.mass, wanted.head.mass);
-        same("speed", got.head.speed, wanted.head.speed);
-        same("cell area", got.head.cell_area, wanted.head.cell_area);
-        same("controlled mark", got.head.controlled, wanted.head.controlled);
-        same("mitigation word", got.head.word, wanted.head.word);
+        MAP_BUFFERS(LEND_WRITTEN)
+        nb_reading_t got = nb_read_case(t, text_len MAP_BUFFERS(NEXT));
+        same_reading(&got, &wanted);
         give_back(&text_arena, "the text", text, text_len);
-        give_back_buffers(wanted.refusal == 0);
+        MAP_BUFFERS(GIVE_BACK_FILLED)
     }
 }
 
-static void give_back_map(uint32_t counts_len, uint32_t marks_len) {
-    give_back(&counts_arena, "the map", map_counts, 4 * (size_t)counts_len);
-    give_back(&marks_arena, "the footprint", map_marks, 8 * (size_t)marks_len);
-}
-
 static void call_footprint(int heap) {
-    uint32_t counts_len = take_32(), marks_len = take_32(), cell_area = take_32();
+    MAP_BUFFERS(TAKE_LENGTH)
+    TAKE(uint32_t, cell_area);
     nb_footprint_t wanted = take_footprint();
     EACH_PLACEMENT(heap) {
         starts("nb_footprint", wanted.refusal);
-        const uint32_t *c = lend(&counts_arena, 4 * (size_t)counts_len, map_counts);
-        const uint64_t *m = lend(&marks_arena, 8 * (size_t)marks_len, map_marks);
-        nb_footprint_t got = nb_footprint(c, counts_len, m, marks_len, cell_area);
+        MAP_BUFFERS(LEND_READ)
+        nb_footprint_t got = nb_footprint(MAP_BUFFERS(FIRST) cell_area);
         same_footprint(&got, &wanted);
-        give_back_map(counts_len, marks_len);
+        MAP_BUFFERS(GIVE_BACK_READ)
     }
 }
 
 static void call_assessment(int heap) {
-    uint32_t dimension = take_32(), mass = take_32(), speed = take_32();
-    uint32_t counts_len = take_32(), marks_len = take_32(), cell_area = take_32();
-    uint8_t controlled = take_8();
-    uint16_t word = take_16();
-    nb_assessment_t wanted;
-    wanted.refusal = take_8();
-    wanted.sheet = take_sheet();
-    wanted.footprint = take_footprint();
-    wanted.row_used = take_8();
-    wanted.intrinsic = take_8();
-    wanted.final_class = (int8_t)take_8();
+    TAKE(uint32_t, dimension);
+    TAKE(uint32_t, mass);
+    TAKE(uint32_t, speed);
+    MAP_BUFFERS(TAKE_LENGTH)
+    TAKE(uint32_t, cell_area);
+    TAKE(uint8_t, controlled);
+    TAKE(uint16_t, word);
+    nb_assessment_t wanted = take_assessment();
     EACH_PLACEMENT(heap) {
         starts("nb_assess", wanted.refusal);
-        const uint32_t *c = lend(&counts_arena, 4 * (size_t)counts_len, map_counts);
-        const uint64_t *m = lend(&marks_arena, 8 * (size_t)marks_len, map_marks);
-        nb_assessment_t got =
-            nb_assess(dimension, mass, speed, c, counts_len, m, marks_len, cell_area, controlled, word);
-        same("refusal", got.refusal, wanted.refusal);
-        same_sheet(&got.sheet, &wanted.sheet);
-        same_footprint(&got.footprint, &wanted.footprint);
-        same("row used", got.row_used, wanted.row_used);
-        same("intrinsic class", got.intrinsic, wanted.intrinsic);
-        same("final class", (uint8_t)got.final_class, (uint8_t)wanted.final_class);
-        give_back_map(counts_len, marks_len);
+        MAP_BUFFERS(LEND_READ)
+        nb_assessment_t got = nb_assess(dimension, mass, speed MAP_BUFFERS(NEXT), cell_area, controlled, word);
+        same_assessment(&got, &wanted);
+        MAP_BUFFERS(GIVE_BACK_READ)
     }
 }
 
 static void call_sheet(void) {
-    uint32_t dimension = take_32(), mass = take_32(), speed = take_32();
-    uint8_t refusal = take_8();
-    nb_sheet_t wanted = take_sheet();
-    starts("nb_sheet", refusal);
+    TAKE(uint32_t, dimension);
+    TAKE(uint32_t, mass);
+    TAKE(uint32_t, speed);
+    nb_sheet_answer_t wanted = take_sheet_answer();
+    starts("nb_sheet", wanted.refusal);
     nb_sheet_answer_t got = nb_sheet(dimension, mass, speed);
-    same("refusal", got.refusal, refusal);
-    same_sheet(&got.sheet, &wanted);
+    same_sheet_answer(&got, &wanted);
 }
 
 static void call_intrinsic_class(void) {
-    uint8_t column = take_8(), row = take_8(), controlled = take_8(), refusal = take_8(), number = take_8();
-    starts("nb_intrinsic_class", refusal);
+    TAKE(uint8_t, column);
+    TAKE(uint8_t, row);
+    TAKE(uint8_t, controlled);
+    nb_intrinsic_class_t wanted = take_intrinsic_class();
+    starts("nb_intrinsic_class", wanted.refusal);
     nb_intrinsic_class_t got = nb_intrinsic_class(column, row, controlled);
-    same("refusal", got.refusal, refusal);
-    same("class", got.class_number, number);
+    same_intrinsic_class(&got, &wanted);
 }
 
 static void call_final_class(void) {
-    uint8_t column = take_8(), intrinsic = take_8();
-    uint16_t word = take_16();
-    uint8_t refusal = take_8(), number = take_8();
-    starts("nb_final_class", refusal);
-    nb_final_class_t got = nb_final_class(column, intrinsic, word);
-    same("refusal", got.refusal, refusal);
-    same("class", (uint8_t)got.class_number, number);
+    TAKE(uint8_t, column);
+    TAKE(uint8_t, class_number);
+    TAKE(uint16_t, word);
+    nb_final_class_t wanted = take_final_class();
+    starts("nb_final_class", wanted.refusal);
+    nb_final_class_t got = nb_final_class(column, class_number, word);
+    same_final_class(&got, &wanted);
 }
 
 static void call_frame(int heap) {
-    uint8_t written[NB_FRAME_LENGTH];
-    nb_frame_fields_t fields;
-    uint8_t refusal = take_8();
-    fields.low = take_64();
-    fields.high = take_64();
-    fields.column = take_8();
-    fields.flag = take_8();
-    fields.row_used = take_8();
-    fields.place = take_32();
-    fields.people = take_64();
-    fields.intrinsic = take_8();
-    fields.final_class = (int8_t)take_8();
-    uint32_t frame_len = take_32();
-    uint8_t answer = take_8(), written_len = take_8();
-    take(written, written_len);
+    TAKE(uint8_t, refusal);
+    nb_frame_fields_t fields = take_frame_fields();
+    TAKE(uint32_t, frame_len);
+    TAKE(uint8_t, answer);
+    take_written();
     EACH_PLACEMENT(heap) {
         starts("nb_write_frame", answer);
         uint8_t *f = lend(&frame_arena, frame_len, NULL);
@@ -333,17 +325,18 @@ static void call_frame(int heap) {
 }
 
 static void take_text(void) {
-    uint32_t length = take_32();
+    TAKE(uint32_t, length);
     if (length > sizeof text) fail("a text is too long");
     take(text, length);
 }
 
 static void make_all_calls(int heap) {
     for (;;) {
-        switch (take_8()) {
+        TAKE(uint8_t, letter);
+        switch (letter) {
         case 'T': take_text(); break;
-        case 'R': take(read_counts, sizeof read_counts); take(read_marks, sizeof read_marks); break;
-        case 'M': take(map_counts, sizeof map_counts); take(map_marks, sizeof map_marks); break;
+        case 'R': MAP_BUFFERS(TAKE_READ) break;
+        case 'M': MAP_BUFFERS(TAKE_MAP) break;
         case 'C': call_case(heap); break;
         case 'L': call_reading(heap); break;
         case 'F': call_footprint(heap); break;
@@ -371,10 +364,9 @@ int main(int argc, char **argv) {
     }
     signal(SIGSEGV, on_fault);
     signal(SIGBUS, on_fault);
-    text_arena = arena_of(NB_TEXT_LENGTH + 1);
-    counts_arena = arena_of(sizeof map_counts);
-    marks_arena = arena_of(sizeof map_marks);
-    frame_arena = arena_of(64);
+    MAP_BUFFERS(MAKE_ARENA)
+    text_arena = arena_of(sizeof text);
+    frame_arena = arena_of(2 * NB_FRAME_LENGTH);
     make_all_calls(heap);
     printf("%lu calls, %lu accepted: every answer and every lent byte as the checker says%s\n", calls, accepted,
            heap ? "" : ", nothing touched beyond what was lent");

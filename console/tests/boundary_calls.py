@@ -2,24 +2,28 @@
 
 usage: boundary_calls.py FILE
 
-FILE is a row of records, each a letter and its fields, little-endian and without gaps:
+FILE is a row of records, each a letter and its fields, little-endian and without gaps. The records of a call have the operation's
+parameters in order (checker/library.py has the table): a number, a struct's numbers, or for what is lent its length as u32. Then
+comes what the checker says:
 
-  T  bytes of a text: u32 length, the bytes          the text of the calls C and L that follow
-  R  4,096 counts u32, 64 marks u64                  what an accepted reading of that text gives
-  C  whole case: u32 text, counts, marks, frame length; u8 answer, u8 1 where both buffers are filled, u8 bytes written, the bytes
-  L  reading: u32 text, counts, marks length; u8 refusal; u32 dimension, mass, speed, cell area, u8 controlled, u16 word
-  M  4,097 counts u32, 65 marks u64                  the map of the calls F and A that follow
-  F  footprint: u32 counts length, marks length, cell area; the answer
-  A  assessment: u32 dimension, mass, speed, counts length, marks length, cell area, u8 controlled, u16 word; the answer
-  S  sheet: u32 dimension, mass, speed; the answer
-  I  intrinsic class: u8 column, row, controlled; u8 refusal, u8 class
-  K  final class: u8 column, class, u16 word; u8 refusal, i8 class
-  W  frame: u8 refusal, the fields, u32 frame length; u8 answer, u8 bytes written, the bytes
+  T  bytes of a text: u32 length, the bytes     the text of the calls C and L that follow
+  R  the lent buffers at their right lengths    what an accepted reading of that text gives
+  C  whole case: u8 answer, u8 1 where the map buffers are filled, u8 bytes written, the bytes
+  L  reading: the answer
+  M  the map buffers, one element longer        the map of the calls F and A that follow
+  F  footprint: the answer
+  A  assessment: the answer
+  S  sheet: the answer
+  I  intrinsic class: the answer
+  K  final class: the answer
+  W  frame: u8 answer, u8 bytes written, the bytes
   E  the end
 """
 
+import ctypes
 import random
 import sys
+from itertools import product
 from multiprocessing import Pool
 from pathlib import Path
 from struct import pack
@@ -28,151 +32,183 @@ sys.path.insert(0, str(Path(__file__).resolve().parents[2] / "checker"))
 
 import ground_risk as g
 import random_cases as r
+from library import LENT, OPERATIONS, flat
 
 # Every third of the random cases: some of each kind.
 CASES = range(0, r.CASES, 3)
 
-
-def numbers(letter, values):
-    return pack(f"<{len(values)}{letter}", *values)
-
-
-def packed_sheet(sheet):
-    lines = [n for line in (sheet.glide, sheet.run, sheet.saving, sheet.slide, sheet.t, sheet.area) for n in line]
-    return numbers("Q", lines) + pack("<BB", sheet.column, sheet.flag)
+LETTERS = {"case": b"C", "reading": b"L", "footprint": b"F", "assessment": b"A", "sheet": b"S", "intrinsic class": b"I",
+           "final class": b"K", "frame": b"W"}
 
 
-def packed_footprint(f):
-    return pack("<BBIQI", f.refusal, f.row, f.place, f.people, f.cells)
+def packed(kind, numbers):
+    """The next numbers, one or a struct's, without gaps."""
+    if issubclass(kind, ctypes.Structure):
+        return b"".join(packed(field, numbers) for _, field in kind._fields_)
+    return bytes(kind(next(numbers)))
 
 
-# "A reading that succeeds fills both buffers, also when a later refusal is printed": the refusals before it succeeds.
-NOT_READ = (15, 13, 5, 14)
+def call(name, *values):
+    """The record of a call up to its answer."""
+    out = LETTERS[name]
+    for parameter, value in zip(OPERATIONS[name].parameters, values, strict=True):
+        out += pack("<I", len(value)) if parameter.lent else packed(parameter.kind, iter(flat(value)))
+    return out
+
+
+def answered(name, *values):
+    """The record of a call and what the checker says that it answers."""
+    operation = OPERATIONS[name]
+    return call(name, *values) + packed(operation.answer, iter(operation.said(*values).answer))
 
 
 def text_records(text, answer):
     """The text, and what is left in the buffers by an answer under which it was read."""
     out = b"T" + pack("<I", len(text)) + text
-    if answer.refusal not in NOT_READ:
-        out += b"R" + numbers("I", answer.counts) + numbers("Q", answer.marks)
+    if answer.refusal not in g.NOT_READ:
+        out += b"R" + packed_lent(answer.lent)
     return out
 
 
-def case_record(text_length, counts_length, marks_length, frame_length, answer):
-    written = b"" if answer.refusal == 15 else answer.frame[:41 if answer.refusal == 0 else 3]
-    filled = answer.refusal not in NOT_READ
-    return (b"C" + pack("<IIIIBBB", text_length, counts_length, marks_length, frame_length,
-                        answer.refusal, filled, len(written)) + written)
+def map_record(lent):
+    return b"M" + packed_lent(one_longer(lent))
 
 
-def reading_record(text_length, counts_length, marks_length, reading):
-    return b"L" + pack("<IIIBIIIIBH", text_length, counts_length, marks_length, reading.refusal, *reading.fields)
+def packed_lent(lent):
+    return b"".join(bytes((parameter.kind * len(buffer))(*buffer)) for parameter, buffer in zip(LENT, lent, strict=True))
 
 
-def map_record(counts, marks):
-    return b"M" + numbers("I", counts + [0]) + numbers("Q", marks + [0])
+def one_longer(lent):
+    return g.Lent(*(buffer + [0] for buffer in lent))
 
 
-def footprint_record(counts, marks, cell_area, counts_length, marks_length):
-    counts, marks = (counts + [0])[:counts_length], (marks + [0])[:marks_length]
-    return (b"F" + pack("<III", counts_length, marks_length, cell_area)
-            + packed_footprint(g.footprint(counts, marks, cell_area)))
+def case_record(text, lent, frame_length):
+    frame = bytes(frame_length)
+    answer = g.case(text, lent, frame)
+    written = answer.frame[:g.printed_length(answer.refusal)]
+    filled = answer.refusal not in g.NOT_READ
+    return call("case", text, *lent, frame) + pack("<BBB", answer.refusal, filled, len(written)) + written
 
 
-def assessment_record(case, counts_length, marks_length):
-    counts, marks = (case.counts + [0])[:counts_length], (case.rows + [0])[:marks_length]
-    a = g.assessment(case.dimension, case.mass, case.speed, counts, marks, case.cell_area, case.mark, case.word)
-    return (b"A" + pack("<IIIIIIBH", case.dimension, case.mass, case.speed, counts_length, marks_length,
-                        case.cell_area, case.mark, case.word)
-            + pack("<B", a.refusal) + packed_sheet(a.sheet) + packed_footprint(a.footprint)
-            + pack("<BBb", a.row_used, a.intrinsic, a.final))
-
-
-def sheet_record(dimension, mass, speed):
-    sheet = g.sheet(dimension, mass, speed)
-    return b"S" + pack("<IIIB", dimension, mass, speed, sheet.refusal) + packed_sheet(sheet)
+def assessment_record(fields, lent):
+    return answered("assessment", fields.dimension, fields.mass, fields.speed, *lent, fields.cell_area, fields.controlled, fields.word)
 
 
 def random_case(number):
     """A random case, as a whole and part by part."""
     case = r.make_case(number)
-    text, counts_length, marks_length = case.text, case.counts_length, case.footprint_length
-    reading = g.read_case(text, [0] * counts_length, [0] * marks_length)
-    return (text_records(text, reading)
-            + case_record(len(text), counts_length, marks_length, case.frame_length, r.answer_of(case))
-            + reading_record(len(text), counts_length, marks_length, reading)
-            + sheet_record(case.dimension, case.mass, case.speed)
-            + map_record(case.counts, case.rows)
-            + footprint_record(case.counts, case.rows, case.cell_area, 4_096, 64)
-            + assessment_record(case, 4_096, 64))
+    text, lent, fields = case.text, g.zeros(case.lent_lengths), case.fields
+    return (text_records(text, g.read_case(text, lent))
+            + case_record(text, lent, case.frame_length)
+            + answered("reading", text, *lent)
+            + answered("sheet", fields.dimension, fields.mass, fields.speed)
+            + map_record(case.lent)
+            + answered("footprint", *case.lent, fields.cell_area)
+            + assessment_record(fields, case.lent))
 
 
 def around(exact):
     return (0, 1, exact - 1, exact, exact + 1)
 
 
-def lengths():
-    """An accepted case, one refused in the reading and one refused later, with every buffer at each length that matters."""
-    out = b""
-    accepted, refused = r.make_case(2_300), r.make_case(2_055)
-    damaged = bytearray(accepted.text)
-    damaged[33_958] = 48
-    for text in (accepted.text, bytes(damaged), refused.text):
-        text = text + b"\n"
-        out += text_records(text, g.case(text[:33_959], [0] * 4_096, [0] * 64, bytes(41)))
-        for text_length in around(33_959):
-            for counts_length in around(4_096):
-                for marks_length in around(64):
-                    lent = text[:text_length], [0] * counts_length, [0] * marks_length
-                    reading = g.read_case(*lent)
-                    out += reading_record(text_length, counts_length, marks_length, reading)
-                    for frame_length in around(41) + (64,):
-                        answer = g.case(*lent, bytes(frame_length))
-                        out += case_record(text_length, counts_length, marks_length, frame_length, answer)
-    out += map_record(accepted.counts, accepted.rows)
-    for counts_length in around(4_096):
-        for marks_length in around(64):
-            out += footprint_record(accepted.counts, accepted.rows, accepted.cell_area, counts_length, marks_length)
-            out += assessment_record(accepted, counts_length, marks_length)
+def frame_lengths():
+    return around(g.FRAME_LENGTH) + (g.FRAME_LENGTH + 23,)
+
+
+def all_lengths():
+    """The lent buffers at every length that matters."""
+    return [g.Lent(*lengths) for lengths in product(*map(around, g.LENT_LENGTHS))]
+
+
+def accepted_case():
+    return r.make_case(2_300)
+
+
+def text_lengths(text):
+    """A text with every buffer at each length that matters."""
+    out = text_records(text + b"\n", g.case(text, g.zeros(), bytes(g.FRAME_LENGTH)))
+    for text_length in around(g.TEXT_LENGTH):
+        given = (text + b"\n")[:text_length]
+        for lent in map(g.zeros, all_lengths()):
+            out += answered("reading", given, *lent)
+            for frame_length in frame_lengths():
+                out += case_record(given, lent, frame_length)
+    return out
+
+
+def accepted_lengths():
+    return text_lengths(accepted_case().text)
+
+
+def damaged_lengths():
+    """Refused in the reading."""
+    damaged = bytearray(accepted_case().text)
+    damaged[g.TEXT_LENGTH - 1] = 48
+    return text_lengths(bytes(damaged))
+
+
+def refused_lengths():
+    """Read, and refused later."""
+    return text_lengths(r.make_case(2_055).text)
+
+
+def map_lengths():
+    """A map with both buffers at each length that matters."""
+    accepted = accepted_case()
+    out = map_record(accepted.lent)
+    for lengths_lent in all_lengths():
+        lent = g.Lent(*(buffer[:length] for buffer, length in zip(one_longer(accepted.lent), lengths_lent)))
+        out += answered("footprint", *lent, accepted.fields.cell_area)
+        out += assessment_record(accepted.fields, lent)
     return out
 
 
 def classes():
     out = b""
+    words = [sum(digits // 5 ** place % 5 * 16 ** place for place in range(4)) for digits in range(5 ** 4)]
+    words += [0x000f, 0x00f0, 0x0f00, 0xf000, 0xffff]
     for column in (0, 1, 2, 3, 4, 5, 6, 255):
         for row in (0, 1, 2, 3, 4, 5, 6, 7, 8, 255):
-            for mark in (0, 1, 2, 255):
-                out += b"I" + pack("<BBBBB", column, row, mark, *g.intrinsic_class(column, row, mark))
+            for controlled in (0, 1, 2, 255):
+                out += answered("intrinsic class", column, row, controlled)
         for cls in (0, 1, 2, 3, 4, 5, 6, 7, 8, 9, 10, 11, 255):
-            for digits in range(5 ** 4):
-                word = sum(digits // 5 ** place % 5 * 16 ** place for place in range(4))
-                out += b"K" + pack("<BBHBb", column, cls, word, *g.final_class(column, cls, word))
-            for word in (0x000f, 0x00f0, 0x0f00, 0xf000, 0xffff):
-                out += b"K" + pack("<BBHBb", column, cls, word, *g.final_class(column, cls, word))
+            for word in words:
+                out += answered("final class", column, cls, word)
     return out
+
+
+def any_fields(source):
+    """Frame fields over the widths of their types, not of their digits."""
+    kind = next(parameter.kind for parameter in OPERATIONS["frame"].parameters if parameter.name == "fields")
+    return g.Frame(*(field(source.getrandbits(64)).value for _, field in kind._fields_))
 
 
 def frames():
     source = random.Random(1)
     out = b""
     for number in range(256):
-        for frame_length in around(41) + (64,):
-            # the widths of the fields' types, not of their digits
-            fields = g.Frame(source.getrandbits(64), source.getrandbits(64), source.getrandbits(8), source.getrandbits(8),
-                             source.getrandbits(8), source.getrandbits(32), source.getrandbits(64), source.getrandbits(8),
-                             source.getrandbits(8) - 128)
+        for frame_length in frame_lengths():
+            fields, frame = any_fields(source), bytes(frame_length)
             refusal = 0 if number % 2 == 0 else number
-            writing = g.write_frame(fields if refusal == 0 else refusal, bytes(frame_length))
-            written = b"" if writing.refusal != 0 else writing.frame[:41 if refusal == 0 else 3]
-            out += (b"W" + pack("<BQQBBBIQBbIBB", refusal, *fields, frame_length, writing.refusal, len(written)) + written)
+            outcome = fields if refusal == 0 else refusal
+            writing = g.write_frame(outcome, frame)
+            written = g.frame_text(outcome) if writing.refusal == 0 else b""
+            out += call("frame", refusal, fields, frame) + pack("<BB", writing.refusal, len(written)) + written
     return out
 
 
+PARTS = (accepted_lengths, damaged_lengths, refused_lengths, map_lengths, classes, frames)
+
+
+def run_part(number):
+    return PARTS[number]()
+
+
 def write_calls(out, each):
-    """Every part's calls in order; `each` is map, or a pool's imap."""
-    for records in each(random_case, CASES):
+    """Every part's calls in order; `each` is like a pool's imap."""
+    for records in each(random_case, CASES, 20):
         out.write(records)
-    for records in each(call, (lengths, classes, frames)):
+    for records in each(run_part, range(len(PARTS)), 1):
         out.write(records)
     out.write(b"E")
 
@@ -182,14 +218,10 @@ def main():
         try:
             pool = Pool()
         except OSError:  # no semaphores here
-            write_calls(out, map)
+            write_calls(out, lambda work, items, at_once: map(work, items))
             return
         with pool:
-            write_calls(out, lambda work, parts: pool.imap(work, parts, chunksize=20))
-
-
-def call(part):
-    return part()
+            write_calls(out, pool.imap)
 
 
 if __name__ == "__main__":

@@ -21,10 +21,10 @@ uint8_t __wrap_nb_case(const uint8_t *text, size_t text_len, uint32_t *counts, s
     case 'c': seen = (uint8_t)counts[counts_len]; break;                           /* reads after the counts */
     case 'm': seen = (uint8_t)marks[-1]; break;                                    /* reads before the marks */
     case 't': if (text_len > 0) *(volatile uint8_t *)text = text[0]; break;        /* writes the text, the same byte */
-    case 'f': if (frame_len > 41) frame[41] ^= 1; break;                           /* writes after the frame's last byte */
-    case 'r': if (answer == 14) counts[0] = 0; break;                              /* stores under a refused reading */
-    case 'n': answer ^= answer == 13; break;                                       /* another refusal */
-    case 'p': if (answer == 0) frame[30] ^= 1; break;                              /* another digit */
+    case 'f': if (frame_len > NB_FRAME_LENGTH) frame[NB_FRAME_LENGTH] ^= 1; break; /* writes after the frame's last byte */
+    case 'r': if (answer == NB_TEXT_BYTE) counts[0] = 0; break;                    /* stores under a refused reading */
+    case 'n': answer ^= answer == NB_TEXT_SIZE; break;                             /* another refusal */
+    case 'p': if (answer == 0) frame[NB_FRAME_LENGTH - 2] ^= 1; break;             /* another digit */
     default: break;
     }
     return answer;

@@ -2,7 +2,8 @@
 
 use crate::inputs::{self, Map, Random};
 use crate::{library, obvious, tuned};
-use nuggetbay::{Footprint, Reading, SheetAnswer};
+use nuggetbay::layout::LINE_1_LENGTH;
+use nuggetbay::{Footprint, Reading, SheetAnswer, FRAME_LENGTH, MAP_CELLS, MAP_COLUMNS, MAP_ROWS};
 
 pub struct Tally {
     pub inputs: usize,
@@ -39,18 +40,18 @@ fn footprint_answer(result: Result<Footprint, u8>) -> Footprint {
 }
 
 fn damaged_map(random: &mut Random, kind: usize, mut map: Map) -> Map {
-    let place = random.below(4096) as usize;
+    let place = random.below(MAP_CELLS as u64) as usize;
     match kind {
         0 => map.counts[place] = 1_000_001,
         1 => map.counts[place] = u32::MAX,
         2 => map.cell_area = random.one_of(&[0, 99, 25_000_001, u32::MAX]),
-        3 => map.marks = vec![0; 64],
+        3 => map.marks = vec![0; MAP_ROWS],
         4 => drop(map.counts.pop()),
         5 => map.marks.push(1),
         // one marked cell
         6 => {
-            map.marks = vec![0; 64];
-            map.marks[place / 64] = 1 << (place % 64);
+            map.marks = vec![0; MAP_ROWS];
+            map.marks[place / MAP_COLUMNS] = 1 << (place % MAP_COLUMNS);
         }
         // ties, and nobody at all
         7 => map.counts.iter_mut().for_each(|count| *count %= 3),
@@ -109,13 +110,13 @@ fn damaged_text(random: &mut Random, kind: usize, text: &mut Vec<u8>, lent: &mut
         3 => text.clear(),
         4 => drop(lent.counts.pop()),
         5 => lent.marks.push(9),
-        6 => lent.frame.truncate(40),
-        7 => lent.frame.resize(64, 7),
+        6 => lent.frame.truncate(FRAME_LENGTH - 1),
+        7 => lent.frame.resize(FRAME_LENGTH + 23, 7),
         // the last line end, and the first byte
         8 => *text.last_mut().expect("not empty") = b'0',
         9 => text[0] = b'F',
         // the digits of line 1
-        10..=14 => text[random.below(38) as usize] = random.one_of(b"0123456789abcdef"),
+        10..=14 => text[random.below(LINE_1_LENGTH as u64 - 1) as usize] = random.one_of(b"0123456789abcdef"),
         // any digit
         _ if text[place] != b'\n' => text[place] = random.one_of(b"0123456789abcdef"),
         _ => {}
@@ -134,9 +135,9 @@ pub fn cases(random: &mut Random, tally: &mut Tally) {
         let mut lent = Lent {
             answer: 0,
             reading: Reading::default(),
-            counts: vec![7; 4096],
-            marks: vec![9; 64],
-            frame: vec![5; 41],
+            counts: vec![7; MAP_CELLS],
+            marks: vec![9; MAP_ROWS],
+            frame: vec![5; FRAME_LENGTH],
         };
         damaged_text(random, i / 2 % 30, &mut text, &mut lent);
         let answer = run(&text, &lent, library::read_case, library::case);

@@ -1,5 +1,6 @@
 //! The inputs of the benchmark, from a fixed seed.
 
+use nuggetbay::{MAP_CELLS, MAP_COLUMNS, MAP_ROWS, TEXT_LENGTH};
 use std::fmt::Write;
 
 pub struct Random(pub u64);
@@ -63,8 +64,8 @@ pub struct Map {
 /// Counts up to a million in every cell, half of the cells marked.
 pub fn full_map(random: &mut Random) -> Map {
     Map {
-        counts: (0..4096).map(|_| random.between(0, 1_000_000)).collect(),
-        marks: (0..64).map(|_| random.next()).collect(),
+        counts: (0..MAP_CELLS).map(|_| random.between(0, 1_000_000)).collect(),
+        marks: (0..MAP_ROWS).map(|_| random.next()).collect(),
         cell_area: random.between(1_000_000, 25_000_000),
     }
 }
@@ -73,14 +74,16 @@ pub fn full_map(random: &mut Random) -> Map {
 pub fn sparse_map(random: &mut Random) -> Map {
     let (top, east) = (random.below(55), random.below(45));
     Map {
-        counts: (0..4096).map(|_| if random.below(20) == 0 { random.between(0, 49) } else { 0 }).collect(),
-        marks: (0..64).map(|row| if (top..top + 10).contains(&row) { 0xf_ffff << east } else { 0 }).collect(),
+        counts: (0..MAP_CELLS).map(|_| if random.below(20) == 0 { random.between(0, 49) } else { 0 }).collect(),
+        marks: (0..MAP_ROWS as u64)
+            .map(|row| if (top..top + 10).contains(&row) { 0xf_ffff << east } else { 0 })
+            .collect(),
         cell_area: random.between(10_000, 1_000_000),
     }
 }
 
 pub fn text(aircraft: Aircraft, map: &Map, controlled: u8, word: u16) -> Vec<u8> {
-    let mut text = String::with_capacity(33_959);
+    let mut text = String::with_capacity(TEXT_LENGTH);
     let Aircraft { dimension, mass, speed } = aircraft;
     let cell_area = map.cell_area;
     writeln!(text, "{dimension:08x}{mass:08x}{speed:08x}{cell_area:08x}{controlled:02x}{word:04x}")
@@ -88,7 +91,7 @@ pub fn text(aircraft: Aircraft, map: &Map, controlled: u8, word: u16) -> Vec<u8>
     for mark in &map.marks {
         writeln!(text, "{mark:016x}").expect("a String grows");
     }
-    for row in map.counts.chunks(64) {
+    for row in map.counts.chunks(MAP_COLUMNS) {
         for count in row {
             write!(text, "{count:08x}").expect("a String grows");
         }

@@ -8,6 +8,7 @@ mod obvious;
 mod tuned;
 
 use inputs::{Aircraft, Map, Random};
+use nuggetbay::{FRAME_LENGTH, MAP_CELLS, MAP_ROWS};
 use std::cell::RefCell;
 use std::hint::black_box;
 use std::rc::Rc;
@@ -35,10 +36,10 @@ struct Buffers {
     frame: Vec<u8>,
 }
 
-/// The 4,096 counts that are lent in a round.
+/// The counts that are lent in a round.
 fn lent_counts(counts: &mut [u32], round: usize) -> &mut [u32] {
     let start = round % PLACES_OF_A_PAGE * (PAGE / PLACES_OF_A_PAGE);
-    &mut counts[start..start + 4096]
+    &mut counts[start..start + MAP_CELLS]
 }
 
 /// In counts.
@@ -46,7 +47,8 @@ const PAGE: usize = 1024;
 const PLACES_OF_A_PAGE: usize = 16;
 
 fn buffers() -> Rc<RefCell<Buffers>> {
-    Rc::new(RefCell::new(Buffers { counts: vec![0; 4096 + PAGE], marks: vec![0; 64], frame: vec![0; 41] }))
+    let (counts, marks, frame) = (vec![0; MAP_CELLS + PAGE], vec![0; MAP_ROWS], vec![0; FRAME_LENGTH]);
+    Rc::new(RefCell::new(Buffers { counts, marks, frame }))
 }
 
 fn sheet_contest(aircraft: Vec<Aircraft>) -> Contest {
@@ -159,7 +161,8 @@ fn contests() -> Vec<Contest> {
     let full = Rc::new(inputs::texts(random, inputs::full_map));
     let sparse = Rc::new(inputs::texts(random, inputs::sparse_map));
     let wrong_byte = damaged(random, |_, _, _| {}, true);
-    let wrong_count = damaged(random, |random, map, _| map.counts[random.below(4096) as usize] = 1_000_001, false);
+    let wrong_count =
+        damaged(random, |random, map, _| map.counts[random.below(MAP_CELLS as u64) as usize] = 1_000_001, false);
     let no_cell = damaged(random, |_, map, _| map.marks.fill(0), false);
     let wrong_word = damaged(random, |_, _, word| *word = 0x3000, false);
     vec![

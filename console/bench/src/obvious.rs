@@ -1,6 +1,8 @@
 //! The operations as one would write them first: match, early exits, Option and Result, u128 where a product might be long.
 
+use nuggetbay::layout::{place_of, COUNT_DIGITS, LINE_1, LINE_1_LENGTH, MARK_DIGITS};
 use nuggetbay::{Bracket, CaseHead, Footprint, FrameFields, Sheet};
+use nuggetbay::{FRAME_LENGTH, MAP_CELLS, MAP_COLUMNS, MAP_ROWS, TEXT_LENGTH};
 use std::io::Write;
 
 const LIMITS: [u64; 5] = [65_000, 650_000, 6_500_000, 65_000_000, 650_000_000];
@@ -58,7 +60,7 @@ fn table_row(people: u32, cell_area: u32) -> u8 {
 
 #[inline(never)]
 pub fn footprint(counts: &[u32], marks: &[u64], cell_area: u32) -> Result<Footprint, u8> {
-    if counts.len() != 4096 || marks.len() != 64 {
+    if counts.len() != MAP_CELLS || marks.len() != MAP_ROWS {
         return Err(5);
     }
     if !(100..=25_000_000).contains(&cell_area) {
@@ -70,11 +72,11 @@ pub fn footprint(counts: &[u32], marks: &[u64], cell_area: u32) -> Result<Footpr
     let mut worst: Option<(u32, u32)> = None;
     let mut answer = Footprint::default();
     for (r, &bits) in marks.iter().enumerate() {
-        for c in 0..64 {
-            if (bits >> (63 - c)) & 1 == 0 {
+        for c in 0..MAP_COLUMNS {
+            if (bits >> (MAP_COLUMNS - 1 - c)) & 1 == 0 {
                 continue;
             }
-            let place = 64 * r + c;
+            let place = MAP_COLUMNS * r + c;
             let people = counts[place];
             answer.row = answer.row.max(table_row(people, cell_area));
             answer.people += u64::from(people);
@@ -161,24 +163,25 @@ fn number(digits: &[u8]) -> Option<u64> {
 /// Everything is read into locals first, since a refused reading changes neither buffer.
 fn parse(text: &[u8], counts: &mut [u32], marks: &mut [u64]) -> Option<CaseHead> {
     let mut lines = text.split(|&byte| byte == b'\n');
-    let first = lines.next().filter(|line| line.len() == 38)?;
+    let first = lines.next().filter(|line| line.len() + 1 == LINE_1_LENGTH)?;
+    let field = |name| number(&first[place_of(&LINE_1, name)]);
     let head = CaseHead {
-        dimension: number(&first[0..8])? as u32,
-        mass: number(&first[8..16])? as u32,
-        speed: number(&first[16..24])? as u32,
-        cell_area: number(&first[24..32])? as u32,
-        controlled: number(&first[32..34])? as u8,
-        word: number(&first[34..38])? as u16,
+        dimension: field("dimension")? as u32,
+        mass: field("mass")? as u32,
+        speed: field("speed")? as u32,
+        cell_area: field("cell_area")? as u32,
+        controlled: field("controlled")? as u8,
+        word: field("word")? as u16,
     };
-    let mut read_marks = [0u64; 64];
+    let mut read_marks = [0u64; MAP_ROWS];
     for mark in read_marks.iter_mut() {
-        let line = lines.next().filter(|line| line.len() == 16)?;
+        let line = lines.next().filter(|line| line.len() == MARK_DIGITS)?;
         *mark = number(line)?;
     }
-    let mut read_counts = [0u32; 4096];
-    for row in read_counts.chunks_mut(64) {
-        let line = lines.next().filter(|line| line.len() == 512)?;
-        for (count, digits) in row.iter_mut().zip(line.chunks(8)) {
+    let mut read_counts = [0u32; MAP_CELLS];
+    for row in read_counts.chunks_mut(MAP_COLUMNS) {
+        let line = lines.next().filter(|line| line.len() == MAP_COLUMNS * COUNT_DIGITS)?;
+        for (count, digits) in row.iter_mut().zip(line.chunks(COUNT_DIGITS)) {
             *count = number(digits)? as u32;
         }
     }
@@ -190,10 +193,10 @@ fn parse(text: &[u8], counts: &mut [u32], marks: &mut [u64]) -> Option<CaseHead>
 
 #[inline(never)]
 pub fn read_case(text: &[u8], counts: &mut [u32], marks: &mut [u64]) -> Result<CaseHead, u8> {
-    if text.len() != 33_959 {
+    if text.len() != TEXT_LENGTH {
         return Err(13);
     }
-    if counts.len() != 4096 || marks.len() != 64 {
+    if counts.len() != MAP_CELLS || marks.len() != MAP_ROWS {
         return Err(5);
     }
     parse(text, counts, marks).ok_or(14)
@@ -220,7 +223,7 @@ fn working(text: &[u8], counts: &mut [u32], marks: &mut [u64]) -> Result<FrameFi
 
 #[inline(never)]
 pub fn case(text: &[u8], counts: &mut [u32], marks: &mut [u64], mut frame: &mut [u8]) -> u8 {
-    if frame.len() < 41 {
+    if frame.len() < FRAME_LENGTH {
         return 15;
     }
     match working(text, counts, marks) {

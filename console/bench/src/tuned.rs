@@ -4,7 +4,9 @@
 // A sum and one division by a constant; div_ceil would also take the remainder.
 #![allow(clippy::manual_div_ceil)]
 
+use nuggetbay::layout::{place_of, COUNTS, COUNT_LINE, FRAME, LINE_1, LINE_1_LENGTH, MARKS, MARK_LINE};
 use nuggetbay::{Bracket, CaseHead, Footprint, FrameFields, Reading, Sheet, SheetAnswer};
+use nuggetbay::{FRAME_LENGTH, MAP_CELLS, MAP_COLUMNS, MAP_ROWS, REFUSAL_LENGTH, TEXT_LENGTH};
 
 const LIMITS: [u64; 5] = [65_000, 650_000, 6_500_000, 65_000_000, 650_000_000];
 
@@ -78,7 +80,7 @@ static FOUR_CELLS: [[u32; 4]; 16] = {
 
 /// The largest key (count + 1) and the sum of the keys of a row's marked cells, in eight lanes. Signed, since SSE2 compares
 /// signed numbers only.
-fn walk_row(counts: &[u32; 64], bits: u64) -> (u32, u32) {
+fn walk_row(counts: &[u32; MAP_COLUMNS], bits: u64) -> (u32, u32) {
     let mut largest = [0i32; 8];
     let mut sums = [0i32; 8];
     for eight in 0..8 {
@@ -110,7 +112,7 @@ fn refused_footprint(refusal: u8) -> Footprint {
 
 #[inline(never)]
 pub fn footprint(counts: &[u32], marks: &[u64], cell_area: u32) -> Footprint {
-    let (Ok(counts), Ok(marks)) = (<&[u32; 4096]>::try_from(counts), <&[u64; 64]>::try_from(marks)) else {
+    let (Ok(counts), Ok(marks)) = (<&[u32; MAP_CELLS]>::try_from(counts), <&[u64; MAP_ROWS]>::try_from(marks)) else {
         return refused_footprint(5);
     };
     if cell_area.wrapping_sub(100) > 24_999_900 {
@@ -120,11 +122,11 @@ pub fn footprint(counts: &[u32], marks: &[u64], cell_area: u32) -> Footprint {
         return refused_footprint(7);
     }
     let (mut worst, mut worst_row, mut keys, mut cells) = (0, 0, 0u64, 0);
-    for (r, (row, &bits)) in counts.chunks_exact(64).zip(marks).enumerate() {
+    for (r, (row, &bits)) in counts.chunks_exact(MAP_COLUMNS).zip(marks).enumerate() {
         if bits == 0 {
             continue;
         }
-        let row: &[u32; 64] = row.try_into().expect("chunks of 64");
+        let row: &[u32; MAP_COLUMNS] = row.try_into().expect("a map row");
         let (largest, sum) = walk_row(row, bits);
         keys += u64::from(sum);
         cells += bits.count_ones();
@@ -136,13 +138,14 @@ pub fn footprint(counts: &[u32], marks: &[u64], cell_area: u32) -> Footprint {
     if cells == 0 {
         return refused_footprint(8);
     }
-    let row = &counts[64 * worst_row..64 * worst_row + 64];
+    let row = &counts[MAP_COLUMNS * worst_row..][..MAP_COLUMNS];
     let bits = marks[worst_row];
-    let first = (0..64).find(|&c| ((bits >> (63 - c)) & 1 == 1) & (row[c] + 1 == worst)).unwrap_or(0);
+    let first =
+        (0..MAP_COLUMNS).find(|&c| ((bits >> (MAP_COLUMNS - 1 - c)) & 1 == 1) & (row[c] + 1 == worst)).unwrap_or(0);
     Footprint {
         refusal: 0,
         row: table_row(worst - 1, cell_area),
-        place: (64 * worst_row + first) as u32,
+        place: (MAP_COLUMNS * worst_row + first) as u32,
         people: keys - u64::from(cells),
         cells,
     }
@@ -210,7 +213,8 @@ fn are_digits(bytes: &[u8]) -> bool {
 }
 
 #[inline(always)]
-fn is_line(line: &[u8], digits: usize) -> bool {
+fn is_line(line: &[u8]) -> bool {
+    let digits = line.len() - 1;
     are_digits(&line[..digits]) & (line[digits] == b'\n')
 }
 
@@ -226,7 +230,7 @@ fn eight_digits(digits: &[u8]) -> u32 {
 
 /// The counts of a line, through lanes of two digits: each pair to its byte, then four bytes to a count.
 #[inline(always)]
-fn fill_row(line: &[u8; 512], row: &mut [u32; 64]) {
+fn fill_row(line: &[u8; COUNT_LINE - 1], row: &mut [u32; MAP_COLUMNS]) {
     let mut pairs = [0u16; 256];
     for (i, pair) in pairs.iter_mut().enumerate() {
         *pair = u16::from_le_bytes([line[2 * i], line[2 * i + 1]]);
@@ -247,36 +251,38 @@ fn refused_reading(refusal: u8) -> Reading {
 
 #[inline(never)]
 pub fn read_case(text: &[u8], counts: &mut [u32], marks: &mut [u64]) -> Reading {
-    let Ok(text) = <&[u8; 33_959]>::try_from(text) else {
+    let Ok(text) = <&[u8; TEXT_LENGTH]>::try_from(text) else {
         return refused_reading(13);
     };
-    let (Ok(counts), Ok(marks)) = (<&mut [u32; 4096]>::try_from(counts), <&mut [u64; 64]>::try_from(marks)) else {
+    let (Ok(counts), Ok(marks)) = (<&mut [u32; MAP_CELLS]>::try_from(counts), <&mut [u64; MAP_ROWS]>::try_from(marks))
+    else {
         return refused_reading(5);
     };
-    let mut good = is_line(&text[..39], 38);
-    for k in 0..64 {
-        good &= is_line(&text[39 + 17 * k..][..17], 16);
+    let mut good = is_line(&text[..LINE_1_LENGTH]);
+    for k in 0..MAP_ROWS {
+        good &= is_line(&text[MARKS + MARK_LINE * k..][..MARK_LINE]);
     }
-    for k in 0..64 {
-        good &= is_line(&text[1127 + 513 * k..][..513], 512);
+    for k in 0..MAP_ROWS {
+        good &= is_line(&text[COUNTS + COUNT_LINE * k..][..COUNT_LINE]);
     }
     if !good {
         return refused_reading(14);
     }
     for (k, mark) in marks.iter_mut().enumerate() {
-        let line = &text[39 + 17 * k..][..16];
+        let line = &text[MARKS + MARK_LINE * k..][..MARK_LINE];
         *mark = u64::from(eight_digits(line)) << 32 | u64::from(eight_digits(&line[8..]));
     }
-    for (k, row) in counts.chunks_exact_mut(64).enumerate() {
-        let line: &[u8; 512] = text[1127 + 513 * k..][..512].try_into().expect("512 digits");
-        fill_row(line, row.try_into().expect("chunks of 64"));
+    for (k, row) in counts.chunks_exact_mut(MAP_COLUMNS).enumerate() {
+        let line = text[COUNTS + COUNT_LINE * k..].first_chunk().expect("a line of digits");
+        fill_row(line, row.try_into().expect("a map row"));
     }
-    let last = eight_digits(&text[30..]);
+    // the controlled mark and the word end with the line's digits
+    let last = eight_digits(&text[const { place_of(&LINE_1, "word").end - 8 }..]);
     let head = CaseHead {
-        dimension: eight_digits(text),
-        mass: eight_digits(&text[8..]),
-        speed: eight_digits(&text[16..]),
-        cell_area: eight_digits(&text[24..]),
+        dimension: eight_digits(&text[const { place_of(&LINE_1, "dimension") }]),
+        mass: eight_digits(&text[const { place_of(&LINE_1, "mass") }]),
+        speed: eight_digits(&text[const { place_of(&LINE_1, "speed") }]),
+        cell_area: eight_digits(&text[const { place_of(&LINE_1, "cell_area") }]),
         controlled: (last >> 16) as u8,
         word: last as u16,
     };
@@ -291,29 +297,36 @@ fn write_digits(part: &mut [u8], number: u64) {
     }
 }
 
-fn write_refusal(frame: &mut [u8], refusal: u8) -> u8 {
-    write_digits(&mut frame[..2], u64::from(refusal));
-    frame[2] = b'\n';
+/// The part of a frame that has a field.
+macro_rules! part {
+    ($frame:ident, $name:literal) => {
+        &mut $frame[const { place_of(&FRAME, $name) }]
+    };
+}
+
+fn write_refusal(frame: &mut [u8; FRAME_LENGTH], refusal: u8) -> u8 {
+    write_digits(part!(frame, "refusal"), u64::from(refusal));
+    frame[REFUSAL_LENGTH - 1] = b'\n';
     refusal
 }
 
-fn write_frame(frame: &mut [u8; 41], f: &FrameFields) {
-    write_digits(&mut frame[0..2], 0);
-    write_digits(&mut frame[2..10], f.low);
-    write_digits(&mut frame[10..18], f.high);
-    write_digits(&mut frame[18..20], u64::from(f.column));
-    write_digits(&mut frame[20..22], u64::from(f.flag));
-    write_digits(&mut frame[22..24], u64::from(f.row_used));
-    write_digits(&mut frame[24..28], u64::from(f.place));
-    write_digits(&mut frame[28..36], f.people);
-    write_digits(&mut frame[36..38], u64::from(f.intrinsic));
-    write_digits(&mut frame[38..40], f.final_class as u64);
-    frame[40] = b'\n';
+fn write_frame(frame: &mut [u8; FRAME_LENGTH], f: &FrameFields) {
+    write_digits(part!(frame, "refusal"), 0);
+    write_digits(part!(frame, "low"), f.low);
+    write_digits(part!(frame, "high"), f.high);
+    write_digits(part!(frame, "column"), u64::from(f.column));
+    write_digits(part!(frame, "flag"), u64::from(f.flag));
+    write_digits(part!(frame, "row_used"), u64::from(f.row_used));
+    write_digits(part!(frame, "place"), u64::from(f.place));
+    write_digits(part!(frame, "people"), f.people);
+    write_digits(part!(frame, "intrinsic"), u64::from(f.intrinsic));
+    write_digits(part!(frame, "final_class"), f.final_class as u64);
+    frame[FRAME_LENGTH - 1] = b'\n';
 }
 
 #[inline(never)]
 pub fn case(text: &[u8], counts: &mut [u32], marks: &mut [u64], frame: &mut [u8]) -> u8 {
-    let Some(frame) = frame.first_chunk_mut::<41>() else {
+    let Some(frame) = frame.first_chunk_mut::<FRAME_LENGTH>() else {
         return 15;
     };
     let reading = read_case(text, counts, marks);

@@ -4,7 +4,7 @@
 //!
 //! Ends with 0 where the case is accepted, 1 where it is refused, 2 where the file can't be read.
 
-use nuggetbay::{FRAME_LENGTH, MAP_CELLS, MAP_ROWS};
+use nuggetbay::layout::{place_of, FRAME, FRAME_LENGTH, MAP_CELLS, MAP_COLUMNS, MAP_ROWS};
 use std::process::ExitCode;
 
 const GROUND: [&str; 8] = [
@@ -18,21 +18,22 @@ const GROUND: [&str; 8] = [
     "50,000 people per square kilometre or more",
 ];
 
-/// The number in the frame's digits from a place on.
-fn field(frame: &[u8], at: usize, digits: usize) -> usize {
+/// The number in a field of the frame.
+fn field(frame: &[u8], name: &str) -> usize {
     let digit = |byte: u8| (byte as char).to_digit(16).expect("a frame is hexadecimal digits") as usize;
-    frame[at..at + digits].iter().fold(0, |value, &byte| value * 16 + digit(byte))
+    frame[place_of(&FRAME, name)].iter().fold(0, |value, &byte| value * 16 + digit(byte))
 }
 
 fn say(frame: &[u8]) {
-    let (row, place, last) = (field(frame, 22, 2), field(frame, 24, 4), field(frame, 38, 2));
-    let flagged = if field(frame, 20, 2) == 1 { ", the exact one may be the column before" } else { "" };
-    println!("critical area: {} to {} square centimetres", field(frame, 2, 8), field(frame, 10, 8));
-    println!("column: {}{flagged}", field(frame, 18, 2));
+    let field = |name| field(frame, name);
+    let (row, place, last) = (field("row_used"), field("place"), field("final_class"));
+    let flagged = if field("flag") == 1 { ", the exact one may be the column before" } else { "" };
+    println!("critical area: {} to {} square centimetres", field("low"), field("high"));
+    println!("column: {}{flagged}", field("column"));
     println!("table row: {row}, {}", GROUND[row]);
-    println!("most people: in the cell at row {}, column {}", place / 64, place % 64);
-    println!("people under the footprint: {}", field(frame, 28, 8));
-    println!("intrinsic ground risk class: {}", field(frame, 36, 2));
+    println!("most people: in the cell at row {}, column {}", place / MAP_COLUMNS, place % MAP_COLUMNS);
+    println!("people under the footprint: {}", field("people"));
+    println!("intrinsic ground risk class: {}", field("intrinsic"));
     println!("final ground risk class: {}", if last == 255 { -1 } else { last as i32 });
 }
 

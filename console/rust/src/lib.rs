@@ -1,37 +1,28 @@
 //! Safe calls of the proved ground risk sheet (SORA 2.5): from an aircraft, a map of head counts and the flight's footprint
 //! to the critical area, the intrinsic and the final ground risk class.
 //!
-//! Units: dimension in mm, mass in g, speed in cm/s, cell area in square metres. A map is 4,096 head counts, 64 rows of 64
-//! cells, row 0 north, column 0 west. A footprint is 64 rows of 64 bits; the highest bit is the westernmost cell, and a set
+//! Units: dimension in mm, mass in g, speed in cm/s, cell area in square metres. A map is [`MAP_CELLS`] head counts, 64 rows of
+//! 64 cells, row 0 north, column 0 west. A footprint is 64 rows of 64 bits; the highest bit is the westernmost cell, and a set
 //! bit marks a cell as flown over. Every call is answered: what is out of range is refused ([`Refusal`]), nothing panics, and
 //! slices of any length may be lent. `include/nuggetbay.h` says the same for C, function by function.
 
 mod answers;
 pub mod ffi;
+pub mod layout;
 mod refusal;
 
 pub use answers::{
     Assessment, Bracket, CaseHead, FinalClass, Footprint, FrameFields, IntrinsicClass, Reading, Sheet, SheetAnswer,
 };
+pub use layout::{FRAME_LENGTH, MAP_CELLS, MAP_COLUMNS, MAP_ROWS, REFUSAL_LENGTH, TEXT_LENGTH};
 pub use refusal::Refusal;
-
-/// The cells of a map.
-pub const MAP_CELLS: usize = 4096;
-/// The rows of a map, and of a footprint.
-pub const MAP_ROWS: usize = 64;
-/// The bytes of a case text.
-pub const TEXT_LENGTH: usize = 33_959;
-/// The bytes of a printed frame, and the least length of a frame buffer.
-pub const FRAME_LENGTH: usize = 41;
-/// The bytes of a printed refusal.
-pub const REFUSAL_LENGTH: usize = 3;
 
 /// The value where the number is 0, else the refusal of this number.
 fn unless_refused<T>(refusal: u8, value: T) -> Result<T, Refusal> {
     if refusal == 0 {
         return Ok(value);
     }
-    Err(Refusal::of_number(refusal).expect("the library gives the refusals 1 to 15 only, which is proved"))
+    Err(Refusal::of_number(refusal).expect("the library gives no other number, which is proved"))
 }
 
 /// The sheet of an aircraft. Refusals 1 to 4.
@@ -93,7 +84,7 @@ pub fn assess(
     unless_refused(answer.refusal, answer)
 }
 
-/// Reads a case text into 4,096 counts and 64 footprint rows. A refused reading changes neither. Refusals 13, 5, 14.
+/// Reads a case text into [`MAP_CELLS`] counts and [`MAP_ROWS`] footprint rows. A refused reading changes neither. Refusals 13, 5, 14.
 pub fn read_case(text: &[u8], counts: &mut [u32], marks: &mut [u64]) -> Result<CaseHead, Refusal> {
     // SAFETY: the slices are valid for their lengths and don't overlap.
     let answer = unsafe {
@@ -102,8 +93,8 @@ pub fn read_case(text: &[u8], counts: &mut [u32], marks: &mut [u64]) -> Result<C
     unless_refused(answer.refusal, answer.head)
 }
 
-/// Writes what is printed of an accepted case (41 bytes), or of a refused one (3 bytes), at the start of the buffer; the rest
-/// keeps its content. Answers how many bytes were written. Refusal 15, and then nothing is written.
+/// Writes what is printed of an accepted case ([`FRAME_LENGTH`] bytes), or of a refused one ([`REFUSAL_LENGTH`] bytes), at the
+/// start of the buffer; the rest keeps its content. Answers how many bytes were written. Refusal 15, and then nothing is written.
 pub fn write_frame(case: Result<FrameFields, Refusal>, frame: &mut [u8]) -> Result<usize, Refusal> {
     let (number, fields, length) = match case {
         Ok(fields) => (0, fields, FRAME_LENGTH),
@@ -114,8 +105,8 @@ pub fn write_frame(case: Result<FrameFields, Refusal>, frame: &mut [u8]) -> Resu
     unless_refused(answer, length)
 }
 
-/// The whole case: reads the text into the counts and the footprint, assesses it, and prints it into the frame buffer: 41
-/// bytes, or 3 where it is refused; the rest keeps its content. Counts and footprint are filled where the reading succeeds,
+/// The whole case: reads the text into the counts and the footprint, assesses it, and prints it into the frame buffer:
+/// [`FRAME_LENGTH`] bytes, or [`REFUSAL_LENGTH`] where it is refused; the rest keeps its content. Counts and footprint are filled where the reading succeeds,
 /// also when a later refusal is printed. Under refusal 15 all three keep their content. Refusals 15, 13, 5, 14, 1 to 12.
 pub fn case(text: &[u8], counts: &mut [u32], marks: &mut [u64], frame: &mut [u8]) -> Result<(), Refusal> {
     // SAFETY: the slices are valid for their lengths and don't overlap.

@@ -1,5 +1,6 @@
 //! The safe calls: the worked points P1 to P16 of document 01, every refusal, and what is left in lent buffers.
 
+use nuggetbay::layout::{place_of, COUNT_DIGITS, COUNT_LINE, FRAME, LINE_1, LINE_1_LENGTH, MARK_DIGITS, MARK_LINE};
 use nuggetbay::*;
 
 fn area_and_column(dimension: u32, mass: u32, speed: u32) -> Result<(u64, u64, u8), Refusal> {
@@ -22,14 +23,14 @@ fn p1_to_p8_the_sheet() {
 fn one_cell(people: u32, place: usize) -> (Vec<u32>, Vec<u64>) {
     let (mut counts, mut marks) = (vec![0; MAP_CELLS], vec![0; MAP_ROWS]);
     counts[place] = people;
-    marks[place / 64] = 1 << (63 - place % 64);
+    marks[place / MAP_COLUMNS] = 1 << (MAP_COLUMNS - 1 - place % MAP_COLUMNS);
     (counts, marks)
 }
 
 #[test]
 fn p9_to_p11_the_table_row() {
     let row = |people, cell_area| {
-        let (counts, marks) = one_cell(people, 4_095);
+        let (counts, marks) = one_cell(people, MAP_CELLS - 1);
         footprint(&counts, &marks, cell_area).map(|f| (f.row, f.place, f.people, f.cells))
     };
     assert_eq!(row(4, 1_000_000), Ok((2, 4_095, 4, 1)));
@@ -81,17 +82,26 @@ fn the_assessment_is_its_parts() {
 
 /// P16.
 fn text() -> Vec<u8> {
-    let mut text = b"000003e800002710000009c400002710001000\n8000000000000000\n".to_vec();
-    for _ in 1..64 {
-        text.extend_from_slice(b"0000000000000000\n");
+    let line = |first: &str, digits: usize| format!("{first:0<digits$}\n");
+    let mut text = String::from("000003e800002710000009c400002710001000\n");
+    for row in 0..MAP_ROWS {
+        text += &line(if row == 0 { "8" } else { "" }, MARK_DIGITS);
     }
-    for row in 0..64 {
-        let mut line = [b'0'; 513];
-        line[512] = b'\n';
-        line[7] = if row == 0 { b'8' } else { b'0' };
-        text.extend_from_slice(&line);
+    for row in 0..MAP_ROWS {
+        text += &line(if row == 0 { "00000008" } else { "" }, COUNT_DIGITS * MAP_COLUMNS);
     }
-    text
+    text.into_bytes()
+}
+
+#[test]
+fn the_text_and_the_frame_are_as_long_as_document_01_says() {
+    assert_eq!((MAP_CELLS, TEXT_LENGTH, FRAME_LENGTH, REFUSAL_LENGTH), (4_096, 33_959, 41, 3));
+    assert_eq!((LINE_1_LENGTH, MARK_LINE, COUNT_LINE), (39, 17, 513));
+    assert_eq!(
+        (place_of(&FRAME, "refusal"), place_of(&FRAME, "people"), place_of(&FRAME, "final_class")),
+        (0..2, 28..36, 38..40)
+    );
+    assert_eq!((place_of(&LINE_1, "dimension"), place_of(&LINE_1, "word")), (0..8, 34..38));
 }
 
 struct Lent {
@@ -101,7 +111,7 @@ struct Lent {
 }
 
 fn lent() -> Lent {
-    Lent { counts: vec![7; MAP_CELLS], marks: vec![9; MAP_ROWS], frame: b"x".repeat(50) }
+    Lent { counts: vec![7; MAP_CELLS], marks: vec![9; MAP_ROWS], frame: b"x".repeat(FRAME_LENGTH + 9) }
 }
 
 #[test]
@@ -162,33 +172,39 @@ fn line_1_is_read_and_frames_are_written() {
         final_class: -1,
     };
     assert_eq!(write_frame(Ok(fields), &mut l.frame), Ok(FRAME_LENGTH));
-    assert_eq!(&l.frame[..42], b"0000000001000000020301040fff0000000506ff\nx");
+    assert_eq!(&l.frame[..FRAME_LENGTH + 1], b"0000000001000000020301040fff0000000506ff\nx");
     assert_eq!(write_frame(Err(Refusal::NoClass), &mut l.frame), Ok(REFUSAL_LENGTH));
     assert_eq!(&l.frame[..4], b"0a\n0");
 }
 
 #[test]
-fn refusals_have_their_numbers_and_the_header_has_the_same_messages() {
-    let header = include_str!("../../include/nuggetbay.h");
-    for (i, refusal) in Refusal::ALL.into_iter().enumerate() {
-        assert_eq!(usize::from(refusal.number()), i + 1);
-        assert_eq!(Refusal::of_number(refusal.number()), Some(refusal));
-        assert!(header.contains(&format!("return \"{}\";", refusal.message())), "{refusal}");
+fn refusals_are_found_by_their_numbers() {
+    for number in 0..=u8::MAX {
+        let found = Refusal::ALL.into_iter().find(|refusal| refusal.number() == number);
+        assert_eq!(Refusal::of_number(number), found);
+        assert_eq!(found.is_some(), (1..=Refusal::ALL.len()).contains(&usize::from(number)));
     }
-    assert_eq!((Refusal::of_number(0), Refusal::of_number(16)), (None, None));
     assert_eq!(Refusal::Mass.to_string(), "refusal 2: mass out of range: 50 to 25,000,000 g is allowed");
 }
 
 #[test]
-fn layouts_are_those_of_the_header() {
-    use std::mem::{offset_of, size_of};
-    assert_eq!(size_of::<SheetAnswer>(), 112);
-    assert_eq!(offset_of!(SheetAnswer, sheet), 8);
-    assert_eq!(size_of::<Footprint>(), 24);
-    assert_eq!(size_of::<IntrinsicClass>(), 2);
-    assert_eq!(size_of::<FinalClass>(), 2);
-    assert_eq!(size_of::<Assessment>(), 144);
-    assert_eq!(offset_of!(Assessment, footprint), 112);
-    assert_eq!(size_of::<Reading>(), 24);
-    assert_eq!(size_of::<FrameFields>(), 40);
+fn sizes_are_those_of_the_header() {
+    use std::mem::size_of;
+    let header = include_str!("../../include/nuggetbay.h");
+    let sizes = [
+        ("bracket", size_of::<Bracket>()),
+        ("sheet", size_of::<Sheet>()),
+        ("sheet_answer", size_of::<SheetAnswer>()),
+        ("footprint", size_of::<Footprint>()),
+        ("intrinsic_class", size_of::<IntrinsicClass>()),
+        ("final_class", size_of::<FinalClass>()),
+        ("assessment", size_of::<Assessment>()),
+        ("case_head", size_of::<CaseHead>()),
+        ("reading", size_of::<Reading>()),
+        ("frame_fields", size_of::<FrameFields>()),
+    ];
+    for (name, size) in sizes {
+        assert!(header.contains(&format!("NB_ASSERT(sizeof(nb_{name}_t) == {size}, ")), "{name} has {size} bytes");
+    }
+    assert_eq!(header.matches("NB_ASSERT(sizeof(").count(), sizes.len());
 }

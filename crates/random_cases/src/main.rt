@@ -25,6 +25,7 @@ use parts::RandomCase;
 use plain::plain_case;
 use random::source_of;
 use text::write_text;
+use text_kinds::LONGER_FRAMES;
 ghost use mathlib.Core.Path.{_≡_};
 ghost use Prim.Native.Nat.{_≤_};
 ghost use lib.ListN.{length};
@@ -32,11 +33,19 @@ ghost use Rattle.random_cases.specs.Buffers.{textRoom, countsRoom, footp
 
 const CASES: u32 = 2400;
 
-// The longest frame buffer that is lent.
-const FRAME_ROOM: usize = 64;
+// The longest buffers that are lent.
+const TEXT_ROOM: usize = TEXT_LENGTH + 1;
 
-// Refusal 15, which leaves the frame buffer alone.
-const BUFFER_TOO_SHORT: [u8; 3] = [48, 102, 10];
+const COUNTS_ROOM: usize = COUNTS_LENGTH + 1;
+
+const MARKS_ROOM: usize = MARKS_LENGTH + 1;
+
+const FRAME_ROOM: usize = FRAME_LENGTH + LONGER_FRAMES as usize - 1;
+
+// Refusal 15, which leaves the frame buffer alone, and the line that is printed for it.
+const BUFFER_TOO_SHORT: u8 = 15;
+
+const BUFFER_TOO_SHORT_LINE: [u8; REFUSAL_LENGTH] = [48, 102, 10];
 
 fn random_case(n: u32) -> RandomCase {
     of_kind(plain_case(source_of(n)), n as u64 / 100, n as u64 % 100)
@@ -54,8 +63,8 @@ fn write_line(refusal: u8, frame: &[u8])
 {
     if refusal == 0 {
         io::write_all(STDOUT_FILENO, &frame[..FRAME_LENGTH]);
-    } else if refusal == 15 {
-        io::write_all(STDOUT_FILENO, &BUFFER_TOO_SHORT);
+    } else if refusal == BUFFER_TOO_SHORT {
+        io::write_all(STDOUT_FILENO, &BUFFER_TOO_SHORT_LINE);
     } else {
         io::write_all(STDOUT_FILENO, &frame[..REFUSAL_LENGTH]);
     }
@@ -90,9 +99,9 @@ fn print_random_case(
 }
 
 fn main() {
-    let mut text = [0u8; TEXT_LENGTH + 1];
-    let mut counts = [0u32; COUNTS_LENGTH + 1];
-    let mut marks = [0u64; MARKS_LENGTH + 1];
+    let mut text = [0u8; TEXT_ROOM];
+    let mut counts = [0u32; COUNTS_ROOM];
+    let mut marks = [0u64; MARKS_ROOM];
     let mut frame = [0u8; FRAME_ROOM];
     let mut n = 0;
     while n < CASES {

@@ -1,5 +1,7 @@
 // Kinds 6 to 8, 19 and 23: the counts and the footprint.
 use crate::layout::CELLS;
+use crate::layout::COLUMNS;
+use crate::layout::LAST_ROW;
 use crate::layout::ROWS;
 use crate::parts::RandomCase;
 use crate::random::Draw;
@@ -70,7 +72,7 @@ pub(crate) fn count_ties(plain: RandomCase, i: u64) -> RandomCase {
     case.count_2 = 100 + count.value;
     case.drawn_rows = i % 3 == 0;
     if i % 3 == 2 {
-        return with_block(case, 0, 63, ALL_ONES);
+        return with_block(case, 0, LAST_ROW, ALL_ONES);
     }
     case
 }
@@ -80,7 +82,7 @@ pub(crate) fn count_edges(plain: RandomCase, i: u64) -> RandomCase {
     case.cell_area = 25000000;
     let entry = (i % 4) as usize;
     case.count_1 = EDGE_COUNTS[entry];
-    let more = below(case.source, 4095);
+    let more = below(case.source, CELLS - 1);
     case.source = more.next;
     if i / 4 % 2 == 1 {
         with_one_cell(case, case.place_1)
@@ -92,14 +94,14 @@ pub(crate) fn count_edges(plain: RandomCase, i: u64) -> RandomCase {
 fn with_shape(case: RandomCase, shape: u64, row: u64, place: u64) -> RandomCase {
     match shape {
         0 => with_one_cell(case, 0),
-        1 => with_one_cell(case, 63),
-        2 => with_one_cell(case, 4032),
-        3 => with_one_cell(case, 4095),
-        4 => with_block(case, 0, 63, ALL_ONES),
-        5 => with_block(case, 0, 63, 0),
+        1 => with_one_cell(case, COLUMNS - 1),
+        2 => with_one_cell(case, CELLS - COLUMNS),
+        3 => with_one_cell(case, CELLS - 1),
+        4 => with_block(case, 0, LAST_ROW, ALL_ONES),
+        5 => with_block(case, 0, LAST_ROW, 0),
         6 => with_block(case, row, row, ALL_ONES),
-        7 => with_block(case, 0, 63, HIGHEST_BIT),
-        8 => with_block(case, 0, 63, 1),
+        7 => with_block(case, 0, LAST_ROW, HIGHEST_BIT),
+        8 => with_block(case, 0, LAST_ROW, 1),
         _ => with_one_cell(case, place),
     }
 }
@@ -123,7 +125,7 @@ fn with_counts_from(before: RandomCase, base: u32, spread: u64) -> RandomCase {
 }
 
 pub(crate) fn many_people(plain: RandomCase, i: u64) -> RandomCase {
-    let mut case = with_block(with_column(plain, (i % 2) as usize), 0, 63, ALL_ONES);
+    let mut case = with_block(with_column(plain, (i % 2) as usize), 0, LAST_ROW, ALL_ONES);
     case.cell_area = 25000000;
     case.mark = 0;
     let place = below(case.source, CELLS);

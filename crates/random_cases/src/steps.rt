@@ -1,9 +1,11 @@
 // Steps that kinds share.
 use crate::layout::CELLS;
+use crate::layout::COLUMNS;
 use crate::parts::RandomCase;
 use crate::random::below;
-use crate::tables::COLUMNS;
+use crate::tables::COLUMN_AIRCRAFT;
 ghost use Prim.Native.Nat.{_<_};
+ghost use Rattle.random_cases.specs.Buffers.{mapCells};
 
 pub(crate) const ALL_ONES: u64 = 18446744073709551615;
 
@@ -50,7 +52,7 @@ pub(crate) fn with_aircraft(before: RandomCase, aircraft: [u32; 3]) -> RandomCas
 pub(crate) fn with_column(before: RandomCase, c: usize) -> RandomCase
     requires { ⌜ c < 5 ⌝ }
 {
-    with_aircraft(before, COLUMNS[c])
+    with_aircraft(before, COLUMN_AIRCRAFT[c])
 }
 
 pub(crate) fn with_block(before: RandomCase, first: u64, last: u64, marks: u64) -> RandomCase {
@@ -62,12 +64,13 @@ pub(crate) fn with_block(before: RandomCase, first: u64, last: u64, marks: u64) 
 }
 
 pub(crate) fn with_one_cell(before: RandomCase, place: u64) -> RandomCase {
-    with_block(before, place / 64, place / 64, 1 << (63 - place % 64))
+    let row = place / COLUMNS;
+    with_block(before, row, row, HIGHEST_BIT >> (place % COLUMNS))
 }
 
 // A drawn place for count 1.
 pub(crate) fn with_drawn_place(before: RandomCase) -> RandomCase
-    ensures { λ r. ⌜ r .place_1 < 4096 ⌝ }
+    ensures { λ r. ⌜ r .place_1 < mapCells ⌝ }
 {
     let mut case = before;
     let place = below(case.source, CELLS);

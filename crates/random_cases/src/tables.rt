@@ -1,7 +1,7 @@
 // The tables of docs/RANDOM_CASES.md.
 
 // Dimension, mass and speed of an aircraft of each column.
-pub(crate) const COLUMNS: [[u32; 3]; 5] = [
+pub(crate) const COLUMN_AIRCRAFT: [[u32; 3]; 5] = [
     [1000, 10000, 2500],
     [3000, 25000, 3500],
     [8001, 50000, 0],

@@ -1,9 +1,19 @@
 // The text of a random case.
+use crate::layout::CELL_AREA;
 use crate::layout::CELLS;
+use crate::layout::COLUMNS;
+use crate::layout::COUNT_DIGITS;
+use crate::layout::COUNT_WIDTH;
+use crate::layout::DIMENSION;
+use crate::layout::FOOTPRINT_DIGITS;
 use crate::layout::HEAD_END;
+use crate::layout::MARK;
+use crate::layout::MASS;
 use crate::layout::ROWS;
+use crate::layout::SPEED;
 use crate::layout::TEXT_END;
 use crate::layout::TEXT_ROOM;
+use crate::layout::WORD;
 use crate::layout::count_place;
 use crate::layout::footprint_place;
 use crate::parts::RandomCase;
@@ -13,26 +23,32 @@ use crate::random::bits_64;
 use hex::LINE_END;
 use hex::write_digits;
 ghost use mathlib.Core.Path.{_≡_};
-ghost use Prim.Native.Nat.{_+_, _≤_, _<_};
 ghost use lib.ListN.{length};
 ghost use Rattle.random_cases.specs.Buffers.{textRoom};
 
-fn write_number(text: &mut [u8], at: u64, digits: u64, value: u64)
+// A number in the digits from a place up to another; nothing where the text has no such part.
+fn write_number(text: &mut [u8], start: u64, end: u64, value: u64)
     requires { ⌜ length (now text) ≡ textRoom ⌝ }
-    requires { ⌜ at + digits ≤ textRoom ⌝ }
     ensures { λ _. ⌜ length (now (text .exit)) ≡ textRoom ⌝ }
 {
-    let start = at as usize;
-    let end = (at + digits) as usize;
-    write_digits(&mut text[start..end], value);
+    if end < start {
+        return;
+    }
+    if end <= TEXT_ROOM {
+        let first = start as usize;
+        let after = end as usize;
+        write_digits(&mut text[first..after], value);
+    }
 }
 
+// A byte at a place; nothing where the text has no such place.
 fn write_byte(text: &mut [u8], at: u64, byte: u8)
     requires { ⌜ length (now text) ≡ textRoom ⌝ }
-    requires { ⌜ at < textRoom ⌝ }
     ensures { λ _. ⌜ length (now (text .exit)) ≡ textRoom ⌝ }
 {
-    text[at as usize] = byte;
+    if at < TEXT_ROOM {
+        text[at as usize] = byte;
+    }
 }
 
 // Line 1.
@@ -40,12 +56,12 @@ fn write_head(text: &mut [u8], case: RandomCase)
     requires { ⌜ length (now text) ≡ textRoom ⌝ }
     ensures { λ _. ⌜ length (now (text .exit)) ≡ textRoom ⌝ }
 {
-    write_number(text, 0, 8, case.dimension);
-    write_number(text, 8, 8, case.mass);
-    write_number(text, 16, 8, case.speed);
-    write_number(text, 24, 8, case.cell_area);
-    write_number(text, 32, 2, case.mark);
-    write_number(text, 34, 4, case.word);
+    write_number(text, DIMENSION, MASS, case.dimension);
+    write_number(text, MASS, SPEED, case.mass);
+    write_number(text, SPEED, CELL_AREA, case.speed);
+    write_number(text, CELL_AREA, MARK, case.cell_area);
+    write_number(text, MARK, WORD, case.mark);
+    write_number(text, WORD, HEAD_END, case.word);
     write_byte(text, HEAD_END, LINE_END);
 }
 
@@ -73,8 +89,9 @@ fn write_rows(text: &mut [u8], case: RandomCase) -> u32
     while row < ROWS {
         let marks = draw_row(case, source, row);
         source = marks.next;
-        write_number(text, footprint_place(row, 0), 16, marks.value);
-        write_byte(text, footprint_place(row, 16), LINE_END);
+        let end = footprint_place(row, FOOTPRINT_DIGITS);
+        write_number(text, footprint_place(row, 0), end, marks.value);
+        write_byte(text, end, LINE_END);
         row += 1;
     }
     source
@@ -101,7 +118,14 @@ fn write_count(text: &mut [u8], place: u64, count: u64)
     ensures { λ _. ⌜ length (now (text .exit)) ≡ textRoom ⌝ }
 {
     if place < CELLS {
-        write_number(text, count_place(place / 64, 8 * (place % 64)), 8, count);
+        let row = place / COLUMNS;
+        let digit = COUNT_WIDTH * (place % COLUMNS);
+        write_number(
+            text,
+            count_place(row, digit),
+            count_place(row, digit + COUNT_WIDTH),
+            count,
+        );
     }
 }
 
@@ -125,7 +149,7 @@ fn write_count_line_ends(text: &mut [u8])
 {
     let mut row = 0;
     while row < ROWS {
-        write_byte(text, count_place(row, 512), LINE_END);
+        write_byte(text, count_place(row, COUNT_DIGITS), LINE_END);
         row += 1;
     }
 }
@@ -134,9 +158,7 @@ fn damage(text: &mut [u8], place: u64, byte: u64)
     requires { ⌜ length (now text) ≡ textRoom ⌝ }
     ensures { λ _. ⌜ length (now (text .exit)) ≡ textRoom ⌝ }
 {
-    if place < TEXT_ROOM {
-        write_byte(text, place, (byte % 256) as u8);
-    }
+    write_byte(text, place, (byte % 256) as u8);
 }
 
 // The text of the case, one more line end after it, and the damage.

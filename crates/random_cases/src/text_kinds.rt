@@ -1,5 +1,9 @@
 // Kinds 14 to 18 and 21: damaged texts, and lengths.
+use crate::layout::CELLS;
+use crate::layout::COUNT_DIGITS;
+use crate::layout::FOOTPRINT_DIGITS;
 use crate::layout::HEAD_END;
+use crate::layout::LAST_ROW;
 use crate::layout::ROWS;
 use crate::layout::TEXT_END;
 use crate::layout::count_place;
@@ -7,7 +11,9 @@ use crate::layout::footprint_place;
 use crate::parts::RandomCase;
 use crate::random::Draw;
 use crate::random::below;
+use frame::FRAME_LENGTH;
 ghost use Prim.Native.Nat.{_<_};
+ghost use Rattle.random_cases.specs.Buffers.{mapRows};
 
 const NO_DIGITS: [u64; 14] = [0, 47, 58, 64, 65, 66, 67, 68, 69, 70, 96, 103, 255, 10];
 
@@ -40,13 +46,13 @@ fn draw_digit_place(s: u32, turn: u64) -> Draw {
     }
     let row = below(s, ROWS);
     if turn == 1 {
-        let digit = below(row.next, 16);
+        let digit = below(row.next, FOOTPRINT_DIGITS);
         Draw {
             value: footprint_place(row.value, digit.value),
             next: digit.next,
         }
     } else {
-        let digit = below(row.next, 512);
+        let digit = below(row.next, COUNT_DIGITS);
         Draw {
             value: count_place(row.value, digit.value),
             next: digit.next,
@@ -66,16 +72,16 @@ pub(crate) fn wrong_digit(plain: RandomCase, i: u64) -> RandomCase {
 
 // The place of a line end: of line 1, of a footprint line, of a line of counts, or of the last.
 fn line_end(turn: u64, row: u64) -> u64
-    requires { ⌜ row < 64 ⌝ }
+    requires { ⌜ row < mapRows ⌝ }
 {
     if turn == 0 {
         HEAD_END
     } else if turn == 1 {
-        footprint_place(row, 16)
+        footprint_place(row, FOOTPRINT_DIGITS)
     } else if turn == 2 {
-        count_place(row, 512)
+        count_place(row, COUNT_DIGITS)
     } else {
-        count_place(63, 512)
+        count_place(LAST_ROW, COUNT_DIGITS)
     }
 }
 
@@ -112,9 +118,18 @@ pub(crate) fn text_lengths(plain: RandomCase, i: u64) -> RandomCase {
 }
 
 // Lengths of the count buffer, and with each the length of the footprint buffer.
-const COUNTS_LENGTHS: [u64; 8] = [0, 4095, 4097, 4096, 4096, 4096, 4095, 4096];
+const COUNTS_LENGTHS: [u64; 8] = [
+    0,
+    CELLS - 1,
+    CELLS + 1,
+    CELLS,
+    CELLS,
+    CELLS,
+    CELLS - 1,
+    CELLS,
+];
 
-const FOOTPRINT_LENGTHS: [u64; 8] = [64, 64, 64, 0, 63, 65, 65, 64];
+const FOOTPRINT_LENGTHS: [u64; 8] = [ROWS, ROWS, ROWS, 0, ROWS - 1, ROWS + 1, ROWS + 1, ROWS];
 
 pub(crate) fn buffer_lengths(plain: RandomCase, i: u64) -> RandomCase {
     let mut case = plain;
@@ -131,13 +146,16 @@ pub(crate) fn buffer_lengths(plain: RandomCase, i: u64) -> RandomCase {
     case
 }
 
+// Frame buffers that are longer than a frame are so by less than this.
+pub(crate) const LONGER_FRAMES: u64 = 24;
+
 fn frame_length(i: u64, drawn: u64) -> u64
-    requires { ⌜ drawn < 24 ⌝ }
+    requires { ⌜ drawn < 65536 ⌝ }
 {
-    if i < 41 {
+    if i < FRAME_LENGTH as u64 {
         i
     } else if i % 2 == 1 {
-        41 + drawn
+        FRAME_LENGTH as u64 + drawn
     } else {
         drawn
     }
@@ -145,7 +163,7 @@ fn frame_length(i: u64, drawn: u64) -> u64
 
 pub(crate) fn frame_lengths(plain: RandomCase, i: u64) -> RandomCase {
     let mut case = plain;
-    let drawn = below(case.source, 24);
+    let drawn = below(case.source, LONGER_FRAMES);
     case.source = drawn.next;
     case.frame_length = frame_length(i, drawn.value);
     if 70 <= i {

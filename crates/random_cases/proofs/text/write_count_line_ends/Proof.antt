@@ -2,16 +2,16 @@
 use Prim.Native.Nat.{_≤_, _-_}
 use mathlib.Core.Path.{_≡_}
 use lib.ListN.{length}
-use Rattle.random_cases.specs.Buffers.{textRoom}
+use Rattle.random_cases.specs.Buffers.{mapRows, textRoom}
 use borrow.Author.Needs.{needs}
 use Rattle.random_cases.proofs.text.write_count_line_ends.Statement.{statement}
 use Rattle.random_cases.proofs.text.write_count_line_ends.Tie as tie
 
 abbrev Inv-loop : tie.InvT-loop
-Inv-loop text₀ row₀ text row = (row ≤ 64) × (length text ≡ textRoom)
+Inv-loop text₀ row₀ text row = (row ≤ mapRows) × (length text ≡ textRoom)
 
 abbrev μ-loop : tie.MeasureT-loop
-μ-loop text₀ row₀ text row = 64 - row
+μ-loop text₀ row₀ text row = mapRows - row
 
 loop-holds : tie.Need-loop-holds Inv-loop μ-loop
 loop-holds c = search needs

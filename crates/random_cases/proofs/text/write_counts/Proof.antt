@@ -2,16 +2,16 @@
 use Prim.Native.Nat.{_≤_, _-_}
 use mathlib.Core.Path.{_≡_}
 use lib.ListN.{length}
-use Rattle.random_cases.specs.Buffers.{textRoom}
+use Rattle.random_cases.specs.Buffers.{mapCells, textRoom}
 use borrow.Author.Needs.{needs}
 use Rattle.random_cases.proofs.text.write_counts.Statement.{statement}
 use Rattle.random_cases.proofs.text.write_counts.Tie as tie
 
 abbrev Inv-loop : tie.InvT-loop
-Inv-loop text₀ s base spread source₀ place₀ text source place = (place ≤ 4096) × (length text ≡ textRoom)
+Inv-loop text₀ s base spread source₀ place₀ text source place = (place ≤ mapCells) × (length text ≡ textRoom)
 
 abbrev μ-loop : tie.MeasureT-loop
-μ-loop text₀ s base spread source₀ place₀ text source place = 4096 - place
+μ-loop text₀ s base spread source₀ place₀ text source place = mapCells - place
 
 loop-holds : tie.Need-loop-holds Inv-loop μ-loop
 loop-holds c = search needs

@@ -2,16 +2,16 @@
 use Prim.Native.Nat.{_≤_, _-_}
 use mathlib.Core.Path.{_≡_}
 use lib.ListN.{length}
-use Rattle.random_cases.specs.Buffers.{textRoom}
+use Rattle.random_cases.specs.Buffers.{mapRows, textRoom}
 use borrow.Author.Needs.{needs}
 use Rattle.random_cases.proofs.text.write_rows.Statement.{statement}
 use Rattle.random_cases.proofs.text.write_rows.Tie as tie
 
 abbrev Inv-loop : tie.InvT-loop
-Inv-loop text₀ case source₀ row₀ text source row = (row ≤ 64) × (length text ≡ textRoom)
+Inv-loop text₀ case source₀ row₀ text source row = (row ≤ mapRows) × (length text ≡ textRoom)
 
 abbrev μ-loop : tie.MeasureT-loop
-μ-loop text₀ case source₀ row₀ text source row = 64 - row
+μ-loop text₀ case source₀ row₀ text source row = mapRows - row
 
 loop-holds : tie.Need-loop-holds Inv-loop μ-loop
 loop-holds c = search needs
@@ -22,11 +22,11 @@ draw-row-requires c κs = search needs
 footprint-place-requires : tie.Need-footprint-place-requires Inv-loop μ-loop
 footprint-place-requires c κs = search needs
 
-write-number-requires : tie.Need-write-number-requires Inv-loop μ-loop
-write-number-requires c κs = search needs
-
 footprint-place-requires-2 : tie.Need-footprint-place-requires-2 Inv-loop μ-loop
 footprint-place-requires-2 c κs = search needs
+
+write-number-requires : tie.Need-write-number-requires Inv-loop μ-loop
+write-number-requires c κs = search needs
 
 write-byte-requires : tie.Need-write-byte-requires Inv-loop μ-loop
 write-byte-requires c κs = search needs
@@ -55,8 +55,8 @@ write-rows-spec =
     loop-holds
     draw-row-requires
     footprint-place-requires
-    write-number-requires
     footprint-place-requires-2
+    write-number-requires
     write-byte-requires
     add-row
     loop-less

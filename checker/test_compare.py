@@ -1,0 +1,122 @@
+"""The random calls: every operation has its share and its draws, and a wrong answer or a wrong byte left is a difference."""
+
+import importlib.machinery
+import importlib.util
+import unittest
+from collections import Counter
+from pathlib import Path
+
+import ground_risk as g
+import library
+
+HERE = Path(__file__).resolve().parent
+CALLS = 400
+
+
+def load():
+    loader = importlib.machinery.SourceFileLoader("compare", str(HERE / "compare"))
+    module = importlib.util.module_from_spec(importlib.util.spec_from_loader("compare", loader))
+    loader.exec_module(module)
+    return module
+
+
+compare = load()
+
+
+class CheckerAsLibrary:
+    """Answers what the checker says, but for one operation changes the outcome."""
+
+    def __init__(self, wrong=None, change=None):
+        self.wrong, self.change = wrong, change
+
+    def call(self, name, values):
+        said = library.OPERATIONS[name].said(*values)
+        return self.change(said) if name == self.wrong else said
+
+
+def another_number(place):
+    def change(said):
+        answer = list(said.answer)
+        answer[place] += 1
+        return said._replace(answer=answer)
+    return change
+
+
+def another_byte_left(said):
+    left = [list(buffer) for buffer in said.left]
+    for buffer in left[::-1]:
+        if buffer:
+            buffer[-1] ^= 1
+            return said._replace(left=left)
+    return said
+
+
+class SharesTest(unittest.TestCase):
+    def test_every_operation_has_a_share_and_draws(self):
+        self.assertEqual(set(compare.SHARES), set(library.OPERATIONS))
+        self.assertGreater(min(compare.SHARES.values()), 0)
+        for operation in library.OPERATIONS.values():
+            for parameter in operation.parameters:
+                self.assertIn(parameter.name, compare.DRAWS)
+
+    def test_the_lists_of_checker_and_table_are_in_one_order(self):
+        for lent in (library.MAP, library.LENT):
+            self.assertEqual(tuple(parameter.name for parameter in lent), g.Lent._fields)
+        self.assertEqual(tuple(name for name, _ in library.CaseHead._fields_), g.Fields._fields)
+        self.assertEqual(tuple(name for name, _ in library.FrameFields._fields_), g.Frame._fields)
+        self.assertEqual(set(compare.BUFFERS), set(g.Lent._fields))
+
+    def test_those_on_a_map_or_a_text_are_a_third(self):
+        dear = [name for name, operation in library.OPERATIONS.items()
+                if {"text", "counts"} & {parameter.name for parameter in operation.parameters}]
+        self.assertEqual(dear, ["footprint", "assessment", "reading", "case"])
+        self.assertGreaterEqual(3 * sum(compare.SHARES[name] for name in dear), sum(compare.SHARES.values()))
+
+
+class CallsTest(unittest.TestCase):
+    def run_with(self, answers):
+        compare.LIBRARY = answers
+        return compare.run(3, 0, CALLS)
+
+    def test_agreement(self):
+        agreed, difference = self.run_with(CheckerAsLibrary())
+        self.assertIsNone(difference)
+        self.assertEqual(agreed.total(), CALLS)
+        self.assertEqual(set(agreed), set(library.OPERATIONS))
+
+    def test_the_calls_are_those_of_seed_and_number(self):
+        self.assertEqual(compare.call_of(3, 17), compare.call_of(3, 17))
+        self.assertNotEqual([compare.call_of(3, n) for n in range(4)], [compare.call_of(4, n) for n in range(4)])
+
+    def test_a_wrong_number_is_a_difference(self):
+        for name in library.OPERATIONS:
+            for place in (0, -1):
+                _, difference = self.run_with(CheckerAsLibrary(name, another_number(place)))
+                self.assertEqual(compare.call_of(3, difference[0])[0], name)
+                self.assertTrue(difference[1].startswith(name))
+
+    def test_a_wrong_byte_left_is_a_difference(self):
+        for name in ("reading", "frame", "case"):
+            _, difference = self.run_with(CheckerAsLibrary(name, another_byte_left))
+            self.assertEqual(compare.call_of(3, difference[0])[0], name)
+
+    def test_some_of_each_are_accepted_and_some_refused(self):
+        answers = Counter()
+        for n in range(CALLS):
+            name, values = compare.call_of(5, n)
+            answers[name, library.OPERATIONS[name].said(*values.values()).answer[0] == 0] += 1
+        for name in library.OPERATIONS:
+            self.assertGreater(answers[name, True], 0, name)
+            self.assertGreater(answers[name, False], 0, name)
+
+    def test_a_text_shows_the_call(self):
+        values = {"dimension": 2_000, "mass": 3_000, "speed": 4_000}
+        reading = g.read_case(compare.as_text(values), g.zeros())
+        self.assertEqual((reading.refusal, reading.fields[:3]), (0, (2_000, 3_000, 4_000)))
+        self.assertIsNone(compare.as_text({"column": 1, "row": 2, "controlled": 0}))
+        self.assertIsNone(compare.as_text({"counts": [1], "marks": [0] * g.ROWS, "cell_area": 100}))
+        self.assertEqual(compare.as_text({"text": b"any"}), b"any")
+
+
+if __name__ == "__main__":
+    unittest.main()
