@@ -2,6 +2,7 @@ pub mod TestLaws
 pub mod RoundingLaws
 pub mod FractionLaws
 pub mod SumLaws
+pub mod BestLaws
 pub mod ListLaws
 pub mod PartLaws
 pub mod EachLaws

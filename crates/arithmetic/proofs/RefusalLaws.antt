@@ -84,6 +84,10 @@ use-of {R} (t ∷ ts) n h f = by-test (eqb (t .number) n) h f (use-of ts n)
     by-test true k g rest = g k
     by-test false k g rest = rest (k .1) (g (k .0))
 
+-- the number itself as a way out
+pub first-way-out : (ts : List Test) → distinct ts ≡ true → (n : ℕ) → FollowsFrom ts n (n ≡ firstRefusal ts)
+first-way-out ts d n = follows ts n (λ h. sym (first-exactly-when ts d n .1 h))
+
 -- ---- the numbers that can come
 
 pub first-listed : (ts : List Test) → OneOf (firstRefusal ts) (0 ∷ numbers ts)
@@ -181,20 +185,22 @@ module _ {A : Type 0} (accepted : A) (refused : ℕ → A) where
           if-refused = λ z. sym whole ∙ simp (ne-eqb _ _ (λ k. z (e ∙ k)), e);
         }
 
--- ---- tests after tests, of which the first are judged as one, by a function that gives their number
+-- ---- tests that are judged as one, by a function that gives their number
 
+module _ {A : Type 0} (accepted : A) (refused : ℕ → A) (ts : List Test) (d : distinct ts ≡ true) {n : ℕ} (e : n ≡ firstRefusal ts) where
+  pub refused-by : (n ≡ 0 → ⊥) → refused n ≡ answered ts accepted refused
+  refused-by z = rw e (sym (simp (ne-eqb _ _ (λ k. z (e ∙ k)))) ∙ by-number accepted refused ts d)
+
+  pub accepted-by : n ≡ 0 → accepted ≡ answered ts accepted refused
+  accepted-by z = sym (simp (eq-eqb _ _ (sym e ∙ z))) ∙ by-number accepted refused ts d
+
+-- and others after them
 module _ {A : Type 0} (accepted : A) (refused : ℕ → A) (ts us : List Test) (d : distinct ts ≡ true) {n : ℕ} (e : n ≡ firstRefusal ts) where
-  first-passed : n ≡ 0 → answered us accepted refused ≡ answered (ts ++ us) accepted refused
-  first-passed z =
-      sym (simp (eq-eqb _ _ (sym e ∙ z))) ∙ by-number (answered us accepted refused) refused ts d ∙ answered-after accepted refused ts us
-
   pub refused-before : (n ≡ 0 → ⊥) → refused n ≡ answered (ts ++ us) accepted refused
-  refused-before z =
-      rw e
-      (sym (simp (ne-eqb _ _ (λ k. z (e ∙ k))))
-      ∙ by-number (answered us accepted refused) refused ts d
-      ∙ answered-after accepted refused ts us)
+  refused-before z = refused-by (answered us accepted refused) refused ts d e z ∙ answered-after accepted refused ts us
 
   pub way-out-after : distinct us ≡ true → n ≡ 0 → (k : ℕ)
       → FollowsFrom us k (cond (eqb k 0) accepted (refused k) ≡ answered (ts ++ us) accepted refused)
-  way-out-after f z k = follows us k (λ h. out accepted refused us f k h ∙ first-passed z)
+  way-out-after f z k =
+      follows us k
+      (λ h. out accepted refused us f k h ∙ accepted-by (answered us accepted refused) refused ts d e z ∙ answered-after accepted refused ts us)

@@ -4,6 +4,5 @@ pub mod Fraction
 pub mod SumsAndMaxima
 pub mod Lists
 pub mod Each
-pub mod MapSize
 pub mod BitwiseOr
 pub mod Refusals

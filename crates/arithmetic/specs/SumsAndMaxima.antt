@@ -1,5 +1,5 @@
 -- The sum, the maximum and the first maximum of f over the indices 0, 1, .., n - 1.
-use mathlib.Core.Bool.{cond}
+use mathlib.Core.Bool.{Bool, cond}
 use Prim.Native.Nat.{ℕ, zero, suc, _+_, max}
 use lib.Dec.{ltb}
 
@@ -17,3 +17,8 @@ maxBelow f (suc n) = max (maxBelow f n) (f n)
 unfoldable pub firstMaxBelow : (ℕ → ℕ) → ℕ → ℕ
 firstMaxBelow f zero = 0
 firstMaxBelow f (suc n) = cond (ltb (maxBelow f n) (f n)) n (firstMaxBelow f n)
+
+-- the first index below n that no other beats, where `beats q p` says that q beats p, and 0 where none beats another
+unfoldable pub firstBest : (ℕ → ℕ → Bool) → ℕ → ℕ
+firstBest beats zero = 0
+firstBest beats (suc n) = cond (beats n (firstBest beats n)) n (firstBest beats n)

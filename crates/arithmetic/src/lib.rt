@@ -2,11 +2,6 @@
 ghost use mathlib.Core.Path.{_≡_};
 ghost use Prim.Native.Nat.{_-_};
 
-// The size of a map.
-pub const MAP_ROWS: usize = 64;
-
-pub const MAP_COLUMNS: usize = 64;
-
 // a - b, or 0 where that is negative.
 pub fn difference_or_zero(a: u64, b: u64) -> u64
     ensures { λ r. ⌜ r ≡ a - b ⌝ }

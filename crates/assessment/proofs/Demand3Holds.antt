@@ -4,7 +4,7 @@ use mathlib.Core.Logic.{_⊎_, ⊎-elim}
 use Prim.Native.Nat.{ℕ, _+_, _≤_}
 use native.Mathlib.Omega.{arith}
 use Rattle.sheet.specs.Sheet.{sheetOf}
-use Rattle.footprint.specs.Map.{footprintOf}
+use Rattle.footprint.specs.Footprint.{footprintOf}
 use Rattle.exact_area.specs.ExactArea.{exactColumn}
 use Rattle.exact_area.specs.Accuracy.{ColumnIsAccurate}
 use Rattle.exact_area.proofs.AccuracyHolds.{sheet-is-accurate}
@@ -18,7 +18,7 @@ demand-3 w m v accepted counts marks area controlled word =
       accuracy = sheet-is-accurate w m v .area accepted;
       columns = columns;
       unflagged-working = λ e. same (columns .unflagged e);
-      flagged-working = λ e. lower-column (sheetOf w m v .sheet .column) (exactColumn w m v) (columns .exact-in-table .0) (not-above (columns .flagged e)) controlled word (footprintOf counts marks area);
+      flagged-working = λ e. lower-column (sheetOf w m v .sheet .column) (exactColumn w m v) (columns .exact-in-table .0) (not-above (columns .flagged e)) controlled word (footprintOf (record { counts = counts; cell-area = area }) marks);
     }
   where
     columns : ColumnIsAccurate w m v (sheetOf w m v .sheet)

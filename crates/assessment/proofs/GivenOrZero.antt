@@ -10,7 +10,8 @@ use Rattle.arithmetic.proofs.RefusalLaws.{one-of-more}
 use Rattle.sheet.specs.Sheet.{sheetTests, sheetOf}
 use Rattle.sheet.proofs.AcceptanceHolds.{sheet-promise}
 use Rattle.footprint.specs.declared.Footprint.{Footprint}
-use Rattle.footprint.specs.Map.{footprintTests, footprintOf}
+use Rattle.map.specs.Refusals.{mapTests}
+use Rattle.footprint.specs.Footprint.{footprintOf}
 use Rattle.footprint.proofs.PromisesHold.{footprint-promise}
 use Rattle.risk_class.specs.ClassTable.{classTests, intrinsicClassOf}
 use Rattle.risk_class.specs.Mitigation.{mitigationTests, finalClassOf}
@@ -35,9 +36,9 @@ final-listed : (column class word : ℕ) → Listed (finalClassOf column class w
 final-listed column class word =
     one-of-more _ (0 ∷ numbers (mitigationTests column class word)) (0 ∷ assessmentRefusals) refl (final-promise column class word .answer .listed)
 
-footprint-listed : (counts marks : List ℕ) (area : ℕ) → Listed (footprintOf counts marks area .refusal)
+footprint-listed : (counts marks : List ℕ) (area : ℕ) → Listed (footprintOf (record { counts = counts; cell-area = area }) marks .refusal)
 footprint-listed counts marks area =
-    one-of-more _ (0 ∷ numbers (footprintTests counts marks area)) (0 ∷ assessmentRefusals) refl (footprint-promise counts marks area .refusal .listed)
+    one-of-more _ (0 ∷ numbers (mapTests (record { counts = counts; cell-area = area }) marks)) (0 ∷ assessmentRefusals) refl (footprint-promise (record { counts = counts; cell-area = area }) marks .refusal .listed)
 
 sheet-listed : (w m v : ℕ) → Listed (sheetOf w m v .refusal)
 sheet-listed w m v = one-of-more _ (0 ∷ numbers (sheetTests w m v)) (0 ∷ assessmentRefusals) refl (sheet-promise w m v .listed)
@@ -78,7 +79,7 @@ assessment-is-given-or-zero w m v counts marks area controlled word =
     column = sheetOf w m v .sheet .column
 
     footprint : Footprint
-    footprint = footprintOf counts marks area
+    footprint = footprintOf (record { counts = counts; cell-area = area }) marks
 
     working : Working
     working = workingOn column footprint controlled word

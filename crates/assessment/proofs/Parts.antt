@@ -5,7 +5,7 @@ use Prim.Native.Nat.{ℕ}
 use borrow.Author.Tests.{eq-eqb}
 use Rattle.arithmetic.proofs.TestLaws.{went-on}
 use Rattle.sheet.specs.Sheet.{sheetOf}
-use Rattle.footprint.specs.Map.{footprintOf}
+use Rattle.footprint.specs.Footprint.{footprintOf}
 use Rattle.risk_class.specs.ClassTable.{intrinsicClassOf}
 use Rattle.risk_class.specs.Mitigation.{finalClassOf}
 use Rattle.assessment.specs.declared.Assessment.{Assessment}
@@ -18,7 +18,7 @@ module _ (w m v : ℕ) (counts marks : List ℕ) (area controlled word : ℕ) (n
   column = sheetOf w m v .sheet .column
 
   abbrev row : ℕ
-  row = footprintOf counts marks area .row
+  row = footprintOf (record { counts = counts; cell-area = area }) marks .row
 
   abbrev class : ℕ
   class = intrinsicClassOf column row controlled .class
@@ -33,9 +33,9 @@ module _ (w m v : ℕ) (counts marks : List ℕ) (area controlled word : ℕ) (n
       went-on (λ (a : Assessment). a .refusal) (workingAt column counts marks area controlled word .refusal) _ (refusedAssessment _) refl
       (simp (eq-eqb _ _ sheet-none) at none)
 
-  footprint-none : footprintOf counts marks area .refusal ≡ 0
+  footprint-none : footprintOf (record { counts = counts; cell-area = area }) marks .refusal ≡ 0
   unfolding workingOn
-  footprint-none = went-on (λ (x : Working). x .refusal) (footprintOf counts marks area .refusal) _ (endedBefore _) refl working-none
+  footprint-none = went-on (λ (x : Working). x .refusal) (footprintOf (record { counts = counts; cell-area = area }) marks .refusal) _ (endedBefore _) refl working-none
 
   after-none : afterFootprint column row controlled word .refusal ≡ 0
   unfolding workingOn

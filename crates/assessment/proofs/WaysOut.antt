@@ -7,7 +7,7 @@ use lib.IntN.{ℤ}
 use Rattle.sheet.specs.declared.SheetAnswer.{SheetAnswer}
 use Rattle.sheet.specs.Sheet.{sheetOf}
 use Rattle.footprint.specs.declared.Footprint.{Footprint}
-use Rattle.footprint.specs.Map.{footprintOf}
+use Rattle.footprint.specs.Footprint.{footprintOf}
 use Rattle.risk_class.specs.declared.class_table.IntrinsicClass.{IntrinsicClass}
 use Rattle.risk_class.specs.declared.mitigation.FinalClass.{FinalClass}
 use Rattle.risk_class.specs.ClassTable.{usedRow, intrinsicClassOf}
@@ -20,7 +20,7 @@ module _ (w m v : ℕ) (counts marks : List ℕ) (area controlled word : ℕ) {s
   unfolding assessmentOf
   ended-by-sheet h = simp (← s-is, ne-eqb _ _ h)
 
-  module _ (s-none : s .refusal ≡ 0) {f : Footprint} (f-is : f ≡ footprintOf counts marks area) where
+  module _ (s-none : s .refusal ≡ 0) {f : Footprint} (f-is : f ≡ footprintOf (record { counts = counts; cell-area = area }) marks) where
     pub ended-by-footprint : (f .refusal ≡ 0 → ⊥) → refusedAssessment (f .refusal) ≡ assessmentOf w m v counts marks area controlled word
     unfolding assessmentOf assessedBy workingOn
     ended-by-footprint h = simp (← s-is, eq-eqb _ _ s-none, ← f-is, ne-eqb _ _ h)

@@ -9,7 +9,7 @@ use Rattle.arithmetic.specs.Refusals.{OneOf}
 use Rattle.sheet.specs.declared.Sheet.{Sheet}
 use Rattle.sheet.specs.Sheet.{zeroSheet, sheetOf}
 use Rattle.footprint.specs.declared.Footprint.{Footprint}
-use Rattle.footprint.specs.Map.{refusedFootprint, footprintOf}
+use Rattle.footprint.specs.Footprint.{refusedFootprint, footprintOf}
 use Rattle.risk_class.specs.ClassTable.{usedRow, intrinsicClassOf}
 use Rattle.risk_class.specs.Mitigation.{finalClassOf}
 use Rattle.assessment.specs.Working.{Given, given, notGiven, Working, wholeWorking, workingOn, workingAt}
@@ -43,7 +43,7 @@ assessedBy sheet footprint controlled working =
 unfoldable pub assessmentOf : ℕ → ℕ → ℕ → List ℕ → List ℕ → ℕ → ℕ → ℕ → Assessment
 assessmentOf w m v counts marks area controlled word =
     let answer = sheetOf w m v
-    in let footprint = footprintOf counts marks area
+    in let footprint = footprintOf (record { counts = counts; cell-area = area }) marks
     in cond (eqb (answer .refusal) 0)
     (assessedBy (answer .sheet) footprint controlled (workingOn (answer .sheet .column) footprint controlled word))
     (refusedAssessment (answer .refusal))
@@ -60,12 +60,12 @@ pub record AssessmentIsGivenOrZero (a : Assessment) : Type 0 where
 -- an assessment that isn't refused has every part given, and shows them
 pub record AssessmentParts (w m v : ℕ) (counts marks : List ℕ) (area controlled word : ℕ) (a : Assessment) : Type 0 where
   pub sheet-given : sheetOf w m v .refusal ≡ 0
-  pub footprint-given : footprintOf counts marks area .refusal ≡ 0
-  pub intrinsic-given : intrinsicClassOf (sheetOf w m v .sheet .column) (footprintOf counts marks area .row) controlled .refusal ≡ 0
+  pub footprint-given : footprintOf (record { counts = counts; cell-area = area }) marks .refusal ≡ 0
+  pub intrinsic-given : intrinsicClassOf (sheetOf w m v .sheet .column) (footprintOf (record { counts = counts; cell-area = area }) marks .row) controlled .refusal ≡ 0
   pub final-given : finalClassOf (sheetOf w m v .sheet .column) (a .intrinsic) word .refusal ≡ 0
   pub sheet : a .sheet ≡ sheetOf w m v .sheet
-  pub footprint : a .footprint ≡ footprintOf counts marks area
-  pub row-used : a .«row_used» ≡ usedRow (footprintOf counts marks area .row) controlled
-  pub intrinsic : a .intrinsic ≡ intrinsicClassOf (sheetOf w m v .sheet .column) (footprintOf counts marks area .row) controlled .class
+  pub footprint : a .footprint ≡ footprintOf (record { counts = counts; cell-area = area }) marks
+  pub row-used : a .«row_used» ≡ usedRow (footprintOf (record { counts = counts; cell-area = area }) marks .row) controlled
+  pub intrinsic : a .intrinsic ≡ intrinsicClassOf (sheetOf w m v .sheet .column) (footprintOf (record { counts = counts; cell-area = area }) marks .row) controlled .class
   pub final-class : a .«final_class» ≡ finalClassOf (sheetOf w m v .sheet .column) (a .intrinsic) word .class
   pub working : workingAt (sheetOf w m v .sheet .column) counts marks area controlled word ≡ wholeWorking (a .intrinsic) (a .«final_class»)

@@ -5,7 +5,7 @@ use Prim.Native.Nat.{ℕ}
 use lib.Dec.{eqb}
 use lib.IntN.{ℤ}
 use Rattle.footprint.specs.declared.Footprint.{Footprint}
-use Rattle.footprint.specs.Map.{footprintOf}
+use Rattle.footprint.specs.Footprint.{footprintOf}
 use Rattle.risk_class.specs.ClassTable.{intrinsicClassOf}
 use Rattle.risk_class.specs.Mitigation.{finalClassOf}
 
@@ -49,4 +49,4 @@ workingOn column footprint controlled word =
 -- the working at a column over a map, a footprint, a controlled-ground mark and a mitigation word
 abbrev pub workingAt : ℕ → List ℕ → List ℕ → ℕ → ℕ → ℕ → Working
 workingAt column counts marks area controlled word =
-    workingOn column (footprintOf counts marks area) controlled word
+    workingOn column (footprintOf (record { counts = counts; cell-area = area }) marks) controlled word

@@ -25,13 +25,7 @@ pub fn refused_with(refusal: u8) -> Assessment
     ensures { λ r. ⌜ r ≡ refusedAssessment refusal ⌝ }
 {
     let sheet = Sheet::refused();
-    let footprint = Footprint {
-        refusal: 0,
-        row: 0,
-        place: 0,
-        people: 0,
-        cells: 0,
-    };
+    let footprint = Footprint::refused(0);
     Assessment {
         refusal,
         sheet,

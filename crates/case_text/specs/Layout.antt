@@ -3,7 +3,7 @@
 -- 16 digits, the footprint, and 64 lines of 512 digits, eight a count. The whole is 33,959 bytes."
 use Prim.Native.Nat.{ℕ, _+_, _*_}
 -- "64 rows of 64 cells": the counts and the marks that are lent
-pub use Rattle.arithmetic.specs.MapSize.{mapRows, mapColumns, mapCells}
+pub use Rattle.map.specs.Size.{mapRows, mapColumns, mapCells}
 
 abbrev pub dimensionWidth : ℕ
 dimensionWidth = 8

@@ -14,9 +14,9 @@ pub(crate) const WORD: usize = CONTROLLED + 2;
 pub(crate) const HEAD_DIGITS: usize = WORD + 4;
 
 // Rows and columns of the map, and its cells.
-pub(crate) const ROWS: usize = arithmetic::MAP_ROWS;
+pub(crate) const ROWS: usize = map::MAP_ROWS;
 
-pub(crate) const COLUMNS: usize = arithmetic::MAP_COLUMNS;
+pub(crate) const COLUMNS: usize = map::MAP_COLUMNS;
 
 pub(crate) const CELLS: usize = ROWS * COLUMNS;
 

@@ -1,7 +1,7 @@
--- Laws of one cell and of sums and maxima of marked cells: marks, keys, masks, and the table row, which keeps the order of the counts.
+-- Laws of one cell and of sums and maxima of marked cells: keys, masks, and the table row of a key.
 use mathlib.Core.Path.{_≡_, refl, sym, ap, ap₂, _∙_}
 use mathlib.Core.Logic.{⊎-elim}
-use mathlib.Core.Bool.{Bool, true, cond}
+use mathlib.Core.Bool.{Bool, true, cond, not, _||_, _&&_}
 use mathlib.Core.List.{List, []}
 use Prim.Native.Nat.{ℕ, zero, suc, _+_, _-_, _*_, _/_, _%_, _^_, _≤_, _<_, zero-le, max}
 use native.Mathlib.Nat.{le-refl, le-trans, not-suc-le-zero, le-of-suc-le-suc, zero-mul, one-mul, mul-le-mul-right, mod-eq-of-lt, div-div-eq-div-mul}
@@ -20,16 +20,16 @@ use mir.ValLaws.{toZ-pos}
 use Rattle.arithmetic.specs.SumsAndMaxima.{sumBelow, maxBelow}
 use Rattle.arithmetic.proofs.TestLaws.{lt-or-le, cond-le, le-cond, allBelow, all-below}
 use Rattle.arithmetic.proofs.SumLaws.{sum-same, max-same, max-map, ones-sum}
-use Rattle.footprint.specs.Map.{mapColumns, largestCount, squareKilometre, bitAt, markAt, belowDensity, tableRow}
-use Rattle.footprint.specs.Walk.{Masks, maskOf}
+use Rattle.map.specs.Size.{mapColumns}
+use Rattle.map.specs.Map.{largestCount, bitAt, markAt}
+use Rattle.map.specs.TableRow.{squareKilometre, belowDensity, tableRow}
+use Rattle.map.proofs.TableRowLaws.{row-mono}
+use Rattle.footprint.specs.PrivateWalk.{Masks, maskOf}
 
 -- ---- marks
 
 pub bit-clear : (x : ℕ) → (x % 2 ≡ 1 → ⊥) → x % 2 ≡ 0
 bit-clear x h = omega arith
-
-pub mark-lt : (marks : List ℕ) (p : ℕ) → markAt marks p < 2
-mark-lt marks p = omega arith
 
 -- what a mark takes is at most what it is taken from
 pub marked-le : (m x : ℕ) → m < 2 → m * x ≤ x
@@ -37,12 +37,6 @@ marked-le m x h = let le : m ≤ 1 = omega arith in omega (arith, mul-le-mul-rig
 
 pub key-le : (m x : ℕ) → m < 2 → x ≤ largestCount → m * (x + 1) ≤ largestCount + 1
 key-le m x h l = le-trans (marked-le m (x + 1) h) (omega arith)
-
--- the count of ones of a footprint row is the number of its marked cells
-pub ones-of-row : (bits : ℕ) → bits < 2 ^ 64 → ones bits ≡ sumBelow (bitAt bits) mapColumns
-ones-of-row bits h =
-    ones-sum 64 bits h
-    ∙ sum-same (λ c. bits / 2 ^ (64 - suc c) % 2) (bitAt bits) 64 (λ c l. let e : 64 - suc c ≡ 63 - c = omega arith in rw e)
 
 module _ (mark count : ℕ → ℕ) where
   -- where no key is above 0, nothing is marked
@@ -56,6 +50,19 @@ module _ (mark count : ℕ → ℕ) where
       clear : (m x : ℕ) → m * (x + 1) ≡ 0 → m ≡ 0
       clear zero x h = refl
       clear (suc m) x h = let wrong : ⊥ = omega arith in absurd wrong
+
+-- the test of two cells by their keys: marks m and n, people x and y
+pub by-keys : (m n x y : ℕ) → m < 2 → n < 2 → (eqb m 1 && (not (eqb n 1) || ltb y x)) ≡ ltb (n * (y + 1)) (m * (x + 1))
+by-keys zero zero x y h l = simp zero-mul
+by-keys zero (suc zero) x y h l = simp (zero-mul, one-mul, add-one) (sym (le-ltb (suc y) 0 (omega arith)))
+by-keys (suc zero) zero x y h l = simp (zero-mul, one-mul, add-one) (sym (lt-ltb 0 (suc x) (omega arith)))
+by-keys (suc zero) (suc zero) x y h l =
+    simp (one-mul, add-one)
+    (⊎-elim (λ (k : y < x). lt-ltb y x k ∙ sym (lt-ltb (suc y) (suc x) (omega arith)))
+    (λ (k : x ≤ y). le-ltb y x k ∙ sym (le-ltb (suc y) (suc x) (omega arith))) (lt-or-le y x))
+by-keys zero (suc (suc n)) x y h l = let wrong : ⊥ = omega arith in absurd wrong
+by-keys (suc zero) (suc (suc n)) x y h l = let wrong : ⊥ = omega arith in absurd wrong
+by-keys (suc (suc m)) n x y h l = let wrong : ⊥ = omega arith in absurd wrong
 
 -- ---- masks and comparisons
 
@@ -105,49 +112,9 @@ pub or-four : (a b c d : ℕ) → a < 2 → b < 2 → c < 2 → d < 2 → bitOr 
 or-four a b c d ha hb hc hd =
     rw (or-larger a b ha hb, or-larger (max a b) c (omega arith) hc) (or-larger (max (max a b) c) d (omega arith) hd)
 
--- ---- the table row
+-- ---- the table row of a key
 
 module _ (area : ℕ) where
-  -- at one density: where y is below it, so is x
-  step : (x y density v : ℕ) {rx ry : ℕ} → x ≤ y → v ≤ ry → rx ≤ ry
-      → cond (belowDensity x area density) v rx ≤ cond (belowDensity y area density) v ry
-  step x y density v {rx} {ry} l hv h =
-      ⊎-elim
-      (λ (k : y * squareKilometre < density * area).
-      simp (lt-ltb (y * squareKilometre) (density * area) k, lt-ltb (x * squareKilometre) (density * area) (omega arith)) (le-refl v))
-      (λ (k : density * area ≤ y * squareKilometre).
-      simp (le-ltb (y * squareKilometre) (density * area) k) (cond-le (belowDensity x area density) hv h))
-      (lt-or-le (y * squareKilometre) (density * area))
-
-  -- a larger count has the same row or a higher one
-  pub row-mono : (x y : ℕ) → x ≤ y → tableRow x area ≤ tableRow y area
-  unfolding tableRow
-  row-mono x y l =
-      let q6 : ℕ = cond (belowDensity y area 50000) 6 7 in
-      let q5 : ℕ = cond (belowDensity y area 5000) 5 q6 in
-      let q4 : ℕ = cond (belowDensity y area 500) 4 q5 in
-      let q3 : ℕ = cond (belowDensity y area 50) 3 q4 in
-      let r6 : 5 ≤ q6 = le-cond (belowDensity y area 50000) (lit≤ tt) (lit≤ tt) in
-      let r5 : 4 ≤ q5 = le-cond (belowDensity y area 5000) (lit≤ tt) (le-trans (lit≤ tt) r6) in
-      let r4 : 3 ≤ q4 = le-cond (belowDensity y area 500) (lit≤ tt) (le-trans (lit≤ tt) r5) in
-      let r3 : 2 ≤ q3 = le-cond (belowDensity y area 50) (lit≤ tt) (le-trans (lit≤ tt) r4) in
-      step x y 5 2 l r3
-      (step x y 50 3 l r4 (step x y 500 4 l r5 (step x y 5000 5 l r6 (step x y 50000 6 l (lit≤ tt) (le-refl 7)))))
-
-  pub row-ge : (x : ℕ) → 2 ≤ tableRow x area
-  unfolding tableRow
-  row-ge x =
-      le-cond (belowDensity x area 5) (lit≤ tt)
-      (le-cond (belowDensity x area 50) (lit≤ tt)
-      (le-cond (belowDensity x area 500) (lit≤ tt) (le-cond (belowDensity x area 5000) (lit≤ tt) (le-cond (belowDensity x area 50000) (lit≤ tt) (lit≤ tt)))))
-
-  pub row-le : (x : ℕ) → tableRow x area ≤ 7
-  unfolding tableRow
-  row-le x =
-      cond-le (belowDensity x area 5) (lit≤ tt)
-      (cond-le (belowDensity x area 50) (lit≤ tt)
-      (cond-le (belowDensity x area 500) (lit≤ tt) (cond-le (belowDensity x area 5000) (lit≤ tt) (cond-le (belowDensity x area 50000) (lit≤ tt) (le-refl 7)))))
-
   -- the table row of a key: of the count one less, and 0 where nothing is marked
   abbrev pub rowOfKey : ℕ → ℕ
   rowOfKey zero = 0
@@ -156,7 +123,7 @@ module _ (area : ℕ) where
   key-mono : (x y : ℕ) → x ≤ y → rowOfKey x ≤ rowOfKey y
   key-mono zero y l = zero-le
   key-mono (suc x) zero l = absurd (not-suc-le-zero l)
-  key-mono (suc x) (suc y) l = row-mono x y (le-of-suc-le-suc l)
+  key-mono (suc x) (suc y) l = row-mono area x y (le-of-suc-le-suc l)
 
   -- the row of the largest key is the highest row among marked cells
   pub row-of-largest : (mark count : ℕ → ℕ) → ((i : ℕ) → mark i < 2) → (n : ℕ)

@@ -1,6 +1,5 @@
 pub mod CellLaws
 pub mod RowLaws
 pub mod WalkLaws
-pub mod AnswerLaws
 pub mod PromisesHold
 pub mod PointsHold

@@ -1,7 +1,7 @@
--- The cases P9 to P11, and the footprint of P16 by rule.
+-- The footprint of P16, by rule.
 use mathlib.Core.Path.{_≡_, refl, sym, ap, ap₂, _∙_}
 use mathlib.Core.Logic.{⊎-elim}
-use mathlib.Core.Bool.{false}
+use mathlib.Core.Bool.{false, _||_}
 use mathlib.Core.List.{List}
 use Prim.Native.Nat.{ℕ, zero, suc, _+_, _-_, _*_, _/_, _%_, _^_, _≤_, _<_}
 use native.Mathlib.Nat.{div-eq-of-lt}
@@ -11,16 +11,17 @@ use lib.Bits.{shifted-even}
 use lib.Dec.{ltb, eqb}
 use lib.ListN.{getD}
 use lib.Pow.{pow-add, shl-shr, pow-pos}
-use Rattle.arithmetic.specs.Each.{Each}
+use Rattle.arithmetic.proofs.RefusalLaws.{way-out}
 use Rattle.arithmetic.proofs.TestLaws.{lt-or-le, none-any}
 use Rattle.arithmetic.proofs.SumLaws.{sum-first, max-first, first-first}
-use Rattle.footprint.specs.Map.{mapCells, largestCount, countAt, bitAt, markAt, keyAt, peopleAt, tableRow, highestRow, firstLargest, peopleIn, cellsIn, wrongLength, wrongCount, noMark}
-use Rattle.footprint.specs.Points.{rowPoints, RowPointHolds, P16Map, P16Footprint}
-use Rattle.footprint.proofs.AnswerLaws as answer
-
-pub row-points-hold : Each RowPointHolds rowPoints
-unfolding tableRow
-row-points-hold = (refl, (refl, (refl, (refl, (refl, (refl, tt))))))
+use Rattle.map.specs.Size.{mapCells}
+use Rattle.map.specs.Map.{largestCount, Map, countAt, bitAt, markAt, cellsIn}
+use Rattle.map.specs.TableRow.{tableRow}
+use Rattle.map.specs.Refusals.{wrongCountsLength, wrongMarksLength, wrongCount, noMark, mapTests}
+use Rattle.footprint.specs.Footprint.{peopleAt, highestRow, worstPlace, peopleIn, refusedFootprint, acceptedFootprint, footprintOf}
+use Rattle.footprint.specs.PrivateWalk.{keyAt}
+use Rattle.footprint.specs.Points.{P16Map, P16Footprint}
+use Rattle.footprint.proofs.WalkLaws as law
 
 -- the other columns of a row with the westernmost cell marked
 other-columns : (c : ℕ) → c < 63 → bitAt (2 ^ 63) (suc c) ≡ 0
@@ -32,6 +33,9 @@ other-columns c l =
     ∙ omega (arith, shifted-even 1 c)
 
 module _ (counts marks : List ℕ) (m : P16Map counts marks) where
+  abbrev p16-map : Map
+  p16-map = record { counts = counts; cell-area = 10000 }
+
   first-mark : markAt marks 0 ≡ 1
   first-mark = ap (λ (b : ℕ). bitAt b 0) (m .first-marks)
 
@@ -57,28 +61,30 @@ module _ (counts marks : List ℕ) (m : P16Map counts marks) where
   cells-is : cellsIn marks ≡ 1
   cells-is = sum-first (markAt marks) 4095 other-marks ∙ first-mark
 
-  row-is : highestRow counts marks 10000 ≡ 5
+  row-is : highestRow p16-map marks ≡ 5
   unfolding tableRow
   row-is =
       max-first (λ p. markAt marks p * tableRow (countAt counts p) 10000) 4095
       (λ p l. ap₂ (λ (k x : ℕ). k * tableRow x 10000) (other-marks p l) (m .other-counts p))
       ∙ ap₂ (λ (k x : ℕ). k * tableRow x 10000) first-mark (m .first-count)
 
-  place-is : firstLargest counts marks ≡ 0
-  place-is = first-first (keyAt counts marks) 4095 (λ p l. ap₂ (λ (k x : ℕ). k * (x + 1)) (other-marks p l) (m .other-counts p))
+  place-is : worstPlace p16-map marks ≡ 0
+  place-is = law.place-is p16-map marks ∙ first-first (keyAt counts marks) 4095 (λ p l. ap₂ (λ (k x : ℕ). k * (x + 1)) (other-marks p l) (m .other-counts p))
 
   count-le : (p : ℕ) → countAt counts p ≤ largestCount
   count-le zero = omega (arith, m .first-count)
   count-le (suc p) = omega (arith, m .other-counts p)
 
 pub p16-footprint : P16Footprint
+unfolding footprintOf
 p16-footprint counts marks m =
-    let l-in : wrongLength counts marks ≡ false = simp (eq-eqb _ _ (m .counts-length), eq-eqb _ _ (m .marks-length)) in
-    let c-in : wrongCount counts ≡ false =
+    let lengths-in : (wrongCountsLength counts || wrongMarksLength marks) ≡ false = simp (eq-eqb _ _ (m .counts-length), eq-eqb _ _ (m .marks-length)) in
+    let counts-in : wrongCount counts ≡ false =
     none-any (λ p. ltb largestCount (countAt counts p)) mapCells (λ p l. le-ltb largestCount (countAt counts p) (count-le counts marks m p)) in
-    let m-in : noMark marks ≡ false = ap (λ (n : ℕ). eqb n 0) (cells-is counts marks m) in
+    let marks-in : noMark marks ≡ false = ap (λ (n : ℕ). eqb n 0) (cells-is counts marks m) in
     let r = row-is counts marks m in
     let p = place-is counts marks m in
     let s = people-is counts marks m in
     let c = cells-is counts marks m in
-    sym (answer.way-out counts marks 10000 0 l-in refl c-in m-in) ∙ (λ i. record { refusal = 0; row = r i; place = p i; people = s i; cells = c i })
+    sym (way-out (acceptedFootprint (p16-map counts marks m) marks) refusedFootprint (mapTests (p16-map counts marks m) marks) refl 0 lengths-in refl counts-in marks-in)
+    ∙ (λ i. record { refusal = 0; row = r i; place = p i; people = s i; cells = c i })

@@ -9,139 +9,135 @@ use borrow.Author.Tests.{lt-ltb, eqb-false}
 use lib.Count.{ones}
 use lib.ListN.{getD}
 use Rattle.arithmetic.specs.SumsAndMaxima.{sumBelow, maxBelow, firstMaxBelow}
-use Rattle.arithmetic.specs.Refusals.{FirstToHold}
 use Rattle.arithmetic.proofs.RefusalLaws.{answer-promise}
-use Rattle.arithmetic.proofs.TestLaws.{inside}
 use Rattle.arithmetic.proofs.SumLaws.{sum-same, sum-le, sum-mono, max-mono, le-max, first-lt, first-at, first-before, sum-rows}
-use Rattle.footprint.specs.Map.{mapCells, mapRows, mapColumns, largestCount, leastArea, largestArea, countAt, bitAt, markAt, keyAt, peopleAt, tableRow, cellsIn, footprintTests, foundFootprint, footprintOf}
-use Rattle.footprint.specs.Promises.{EmptyCell, FootprintRefusal, AcceptedFootprint, FootprintRanges, WorstCell, SetBits, FootprintPromise, Monotone}
+use Rattle.map.specs.Size.{mapCells, mapRows, mapColumns}
+use Rattle.map.specs.Map.{largestCount, leastArea, largestArea, Map, countAt, bitAt, markAt, cellsIn}
+use Rattle.map.specs.TableRow.{tableRow, rowAt}
+use Rattle.map.specs.Refusals.{mapTests}
+use Rattle.footprint.specs.Footprint.{peopleAt, acceptedFootprint, footprintOf}
+use Rattle.footprint.specs.PrivateWalk.{keyAt}
+use Rattle.footprint.specs.Promises.{EmptyCell, FootprintRefusal, AcceptedInput, FootprintRanges, WorstCell, SetBits, FootprintPromise, Monotone}
 use Rattle.footprint.specs.declared.Footprint.{Footprint}
-use Rattle.footprint.proofs.CellLaws.{mark-lt, marked-le, ones-of-row, no-key, row-mono, row-ge, row-le, rowOfKey, row-of-largest}
-use Rattle.footprint.proofs.WalkLaws.{counts-small, mark-here}
-use Rattle.footprint.proofs.AnswerLaws.{lengths}
+use Rattle.map.proofs.TableRowLaws.{row-mono, row-ge, row-le}
+use Rattle.map.proofs.MarkLaws.{mark-lt, cells-are-ones}
+use Rattle.map.proofs.TestsPassed.{Passed, passed, counts-small}
+use Rattle.footprint.proofs.CellLaws.{marked-le, rowOfKey, row-of-largest}
+use Rattle.footprint.proofs.WalkLaws.{place-is, some-place}
 
 pub empty-cell : EmptyCell
 unfolding tableRow
 empty-cell area l = simp (lt-ltb 0 (5 * area) (omega arith))
 
-pub refusal : (counts marks : List ℕ) (area : ℕ) → FootprintRefusal counts marks area
+pub refusal : (map : Map) (marks : List ℕ) → FootprintRefusal map marks
 unfolding footprintOf
-refusal counts marks area = answer-promise _ _ _ refl (λ n. refl) (footprintTests counts marks area) refl
+refusal map marks = answer-promise _ _ _ refl (λ n. refl) (mapTests map marks) refl
 
 -- ---- an input that isn't refused
 
-module _ (counts marks : List ℕ) (area : ℕ) (ok : footprintOf counts marks area .refusal ≡ 0) where
-  tests : FirstToHold (footprintTests counts marks area) 0
-  tests = refusal counts marks area .exactly-when 0 .0 ok
+module _ (map : Map) (marks : List ℕ) (ok : footprintOf map marks .refusal ≡ 0) where
+  found-is : footprintOf map marks ≡ acceptedFootprint map marks
+  found-is = refusal map marks .if-accepted ok
 
-  found-is : footprintOf counts marks area ≡ foundFootprint counts marks area
-  found-is = refusal counts marks area .if-accepted ok
+  known : Passed map marks
+  known = passed map marks (refusal map marks .exactly-when 0 .0 ok)
 
-  pub accepted : AcceptedFootprint counts marks area
-  accepted =
-      let l = lengths counts marks (tests .0) in
-      let a = inside leastArea largestArea area (tests .1 .0) in
-      record {
-        counts-length = l .0;
-        marks-length = l .1;
-        area-ge = a .0;
-        area-le = a .1;
-        counts-le = counts-small counts (tests .1 .1 .0);
-        answer = found-is;
-      }
+  pub accepted : AcceptedInput map marks
+  accepted = record {
+    counts-length = known .counts-length;
+    marks-length = known .marks-length;
+    area-ge = known .area-ge;
+    area-le = known .area-le;
+    counts-le = counts-small (map .counts) (known .counts-in);
+    answer = found-is;
+  }
 
   -- ---- the worst cell
 
-  some-cells : 1 ≤ cellsIn marks
-  some-cells = omega (arith, eqb-false (cellsIn marks) 0 (tests .1 .1 .1 .0))
-
   abbrev worst : ℕ
-  worst = firstMaxBelow (keyAt counts marks) mapCells
+  worst = firstMaxBelow (keyAt (map .counts) marks) mapCells
 
-  some-key : 0 < maxBelow (keyAt counts marks) mapCells
-  some-key = by-cases (maxBelow (keyAt counts marks) mapCells) refl
-    where
-      by-cases : (n : ℕ) → maxBelow (keyAt counts marks) mapCells ≡ n → 0 < maxBelow (keyAt counts marks) mapCells
-      by-cases zero e = let wrong : ⊥ = omega (arith, some-cells, no-key (markAt marks) (countAt counts) mapCells e) in absurd wrong
-      by-cases (suc n) e = omega arith
+  worst-place : footprintOf map marks .place ≡ worst
+  worst-place = ap (λ (f : Footprint). f .place) found-is ∙ place-is map marks
+
+  some-key : 0 < maxBelow (keyAt (map .counts) marks) mapCells
+  some-key = some-place (map .counts) marks (known .some-cell)
 
   worst-marked : markAt marks worst ≡ 1
   worst-marked =
-      is-one (markAt marks worst) (countAt counts worst) (mark-lt marks worst)
-      (le-trans some-key (le-of-eq (sym (first-at (keyAt counts marks) mapCells some-key))))
+      is-one (markAt marks worst) (countAt (map .counts) worst) (mark-lt marks worst)
+      (le-trans some-key (le-of-eq (sym (first-at (keyAt (map .counts) marks) mapCells some-key))))
     where
       is-one : (m x : ℕ) → m < 2 → 0 < m * (x + 1) → m ≡ 1
       is-one zero x h l = let wrong : ⊥ = omega arith in absurd wrong
       is-one (suc m) x h l = omega arith
 
-  marked-key : (p : ℕ) → markAt marks p ≡ 1 → keyAt counts marks p ≡ countAt counts p + 1
-  marked-key p e = ap (λ (m : ℕ). m * (countAt counts p + 1)) e ∙ one-mul (countAt counts p + 1)
+  marked-key : (p : ℕ) → markAt marks p ≡ 1 → keyAt (map .counts) marks p ≡ countAt (map .counts) p + 1
+  marked-key p e = ap (λ (m : ℕ). m * (countAt (map .counts) p + 1)) e ∙ one-mul (countAt (map .counts) p + 1)
 
-  worst-key : maxBelow (keyAt counts marks) mapCells ≡ countAt counts worst + 1
-  worst-key = sym (first-at (keyAt counts marks) mapCells some-key) ∙ marked-key worst worst-marked
+  worst-key : maxBelow (keyAt (map .counts) marks) mapCells ≡ countAt (map .counts) worst + 1
+  worst-key = sym (first-at (keyAt (map .counts) marks) mapCells some-key) ∙ marked-key worst worst-marked
 
-  pub worst-cell : WorstCell counts marks area
+  pub worst-cell : WorstCell map marks
   worst-cell =
-      let place : footprintOf counts marks area .place ≡ worst = ap (λ (f : Footprint). f .place) found-is in
       record {
-        marked = ap (markAt marks) place ∙ worst-marked;
-        largest = λ p l e. rw place (omega (arith, le-max (keyAt counts marks) mapCells p l, marked-key p e, worst-key));
-        first = λ p l e. rw place
-            (omega (arith, first-before (keyAt counts marks) mapCells p (rw place at l), marked-key p e, worst-key));
+        marked = ap (markAt marks) worst-place ∙ worst-marked;
+        largest = λ p l e. rw worst-place (omega (arith, le-max (keyAt (map .counts) marks) mapCells p l, marked-key p e, worst-key));
+        first = λ p l e. rw worst-place
+            (omega (arith, first-before (keyAt (map .counts) marks) mapCells p (rw worst-place at l), marked-key p e, worst-key));
         row = ap (λ (f : Footprint). f .row) found-is
-            ∙ row-of-largest area (markAt marks) (countAt counts) (mark-lt marks) mapCells
-            ∙ ap (rowOfKey area) (worst-key ∙ add-one (countAt counts worst))
-            ∙ sym (ap (λ (p : ℕ). tableRow (countAt counts p) area) place);
+            ∙ row-of-largest (map .cell-area) (markAt marks) (countAt (map .counts)) (mark-lt marks) mapCells
+            ∙ ap (rowOfKey (map .cell-area)) (worst-key ∙ add-one (countAt (map .counts) worst))
+            ∙ sym (ap (rowAt map) worst-place);
       }
 
   -- ---- ranges
 
-  pub ranges : FootprintRanges counts marks area
+  pub ranges : FootprintRanges map marks
   ranges =
-      let place : footprintOf counts marks area .place ≡ worst = ap (λ (f : Footprint). f .place) found-is in
       let people = ap (λ (f : Footprint). f .people) found-is in
       let cells = ap (λ (f : Footprint). f .cells) found-is in
       record {
-        row-ge = rw (worst-cell .row) (row-ge area _);
-        row-le = rw (worst-cell .row) (row-le area _);
-        place-lt = rw place (first-lt (keyAt counts marks) mapCells (omega arith));
-        people-le = rw people (sum-le (peopleAt counts marks) largestCount mapCells
-            (λ p l. le-trans (marked-le (markAt marks p) (countAt counts p) (mark-lt marks p)) (counts-small counts (tests .1 .1 .0) p l)));
-        cells-ge = rw cells some-cells;
+        row-ge = rw (worst-cell .row) (row-ge (map .cell-area) _);
+        row-le = rw (worst-cell .row) (row-le (map .cell-area) _);
+        place-lt = rw worst-place (first-lt (keyAt (map .counts) marks) mapCells (omega arith));
+        people-le = rw people (sum-le (peopleAt (map .counts) marks) largestCount mapCells
+            (λ p l. le-trans (marked-le (markAt marks p) (countAt (map .counts) p) (mark-lt marks p)) (counts-small (map .counts) (known .counts-in) p l)));
+        cells-ge = rw cells (known .some-cell);
         cells-le = rw cells (omega (arith, sum-le (markAt marks) 1 mapCells (λ p l. le-of-suc-le-suc (mark-lt marks p))));
       }
 
   -- ---- set bits
 
-  pub set-bits : ((r : ℕ) → r < mapRows → getD marks r 0 < 2 ^ 64) → SetBits counts marks area
-  set-bits small =
-      ap (λ (f : Footprint). f .cells) found-is
-      ∙ sym (sum-rows (markAt marks) mapColumns mapRows)
-      ∙ sum-same (λ r. sumBelow (λ c. markAt marks (mapColumns * r + c)) mapColumns) (λ r. ones (getD marks r 0)) mapRows
-      (λ r l. sym (sum-same (bitAt (getD marks r 0)) (λ c. markAt marks (mapColumns * r + c)) mapColumns (mark-here counts marks r))
-      ∙ sym (ones-of-row (getD marks r 0) (small r l)))
+  pub set-bits : ((r : ℕ) → r < mapRows → getD marks r 0 < 2 ^ 64) → SetBits map marks
+  set-bits small = ap (λ (f : Footprint). f .cells) found-is ∙ cells-are-ones marks small
 
-pub footprint-promise : (counts marks : List ℕ) (area : ℕ) → FootprintPromise counts marks area
-footprint-promise counts marks area = record {
-  refusal = refusal counts marks area;
-  accepted = accepted counts marks area;
-  ranges = ranges counts marks area;
-  worst = worst-cell counts marks area;
-  set-bits = set-bits counts marks area;
+pub footprint-promise : (map : Map) (marks : List ℕ) → FootprintPromise map marks
+footprint-promise map marks = record {
+  refusal = refusal map marks;
+  accepted = accepted map marks;
+  ranges = ranges map marks;
+  worst = worst-cell map marks;
+  set-bits = set-bits map marks;
 }
 
 -- ---- two inputs
 
 pub monotone : Monotone
-monotone counts marks counts′ marks′ area ok ok′ n =
-    let a = found-is counts marks area ok in
-    let a′ = found-is counts′ marks′ area ok′ in
+monotone map marks map′ marks′ ok ok′ n =
+    let a = found-is map marks ok in
+    let a′ = found-is map′ marks′ ok′ in
     record {
       row-le = rw (a, a′)
-          (max-mono (λ p. markAt marks p * tableRow (countAt counts p) area) (λ p. markAt marks′ p * tableRow (countAt counts′ p) area) mapCells
-          (λ p l. mul-le-mul (n .marks-le p l) (row-mono area (countAt counts p) (countAt counts′ p) (n .counts-le p l))));
+          (max-mono (λ p. markAt marks p * rowAt map p) (λ p. markAt marks′ p * rowAt map′ p) mapCells
+          (λ p l. mul-le-mul (n .marks-le p l) (row-at-le p l)));
       people-le = rw (a, a′)
-          (sum-mono (peopleAt counts marks) (peopleAt counts′ marks′) mapCells
+          (sum-mono (peopleAt (map .counts) marks) (peopleAt (map′ .counts) marks′) mapCells
           (λ p l. mul-le-mul (n .marks-le p l) (n .counts-le p l)));
       cells-le = rw (a, a′) (sum-mono (markAt marks) (markAt marks′) mapCells (n .marks-le));
     }
+  where
+    row-at-le : (p : ℕ) → p < mapCells → rowAt map p ≤ rowAt map′ p
+    row-at-le p l =
+        le-trans (row-mono (map .cell-area) (countAt (map .counts) p) (countAt (map′ .counts) p) (n .counts-le p l))
+        (le-of-eq (ap (tableRow (countAt (map′ .counts) p)) (n .same-area)))

@@ -13,11 +13,13 @@ use lib.Dec.{ltb, eqb}
 use Rattle.arithmetic.specs.SumsAndMaxima.{sumBelow, maxBelow}
 use Rattle.arithmetic.proofs.TestLaws.{lt-or-le, neither, cond-le}
 use Rattle.arithmetic.proofs.SumLaws.{sum-next, max-next, sum-le, max-le, max-same, max-map, sum-columns, max-columns}
-use Rattle.footprint.specs.Map.{mapColumns, largestCount, countAt, bitAt}
-use Rattle.footprint.specs.Walk.{rowKey, markedCount, aboveLimit, withCell, laneOf, rowSum, keyAbove, rowWalk}
+use Rattle.map.specs.Size.{mapColumns}
+use Rattle.map.specs.Map.{largestCount, countAt, bitAt}
+use Rattle.footprint.specs.PrivateWalk.{rowKey, markedCount, aboveLimit, withCell, laneOf, rowSum, keyAbove, rowWalk}
 use Rattle.footprint.specs.declared.row.Lane.{Lane}
 use Rattle.footprint.specs.declared.row.RowSum.{RowSum}
-use Rattle.footprint.proofs.CellLaws.{marked-le, or-four, ones-of-row}
+use Rattle.map.proofs.MarkLaws.{ones-of-row}
+use Rattle.footprint.proofs.CellLaws.{marked-le, or-four}
 
 -- ---- a count above a limit
 
@@ -92,15 +94,16 @@ module _ (counts : List ℕ) (bits limit : ℕ) where
       pub people-le : a .people + b .people + c .people + d .people ≤ mapColumns * largestCount
       people-le = omega (arith, ap (λ (x : RowSum). x .people) lanes-all, sum-le (markedCount counts bits) largestCount mapColumns marked-small)
 
--- ---- a key above those before it
+-- ---- a key above a limit
 
-pub max-above : (w k : ℕ) → max w (keyAbove w k) ≡ max w k
-max-above w k =
-    ⊎-elim (λ (h : w < k). simp (lt-ltb w k h)) (λ (h : k ≤ w). simp (le-ltb w k h) (omega arith)) (lt-or-le w k)
+pub above-pos : (limit k : ℕ) → ltb 0 (keyAbove limit k) ≡ ltb limit k
+above-pos limit k =
+    ⊎-elim (λ (h : limit < k). simp (lt-ltb limit k h) (lt-ltb 0 k (omega arith))) (λ (h : k ≤ limit). simp (le-ltb limit k h)) (lt-or-le limit k)
 
-pub less-above : (w k : ℕ) → ltb w (keyAbove w k) ≡ ltb w k
-less-above w k =
-    ⊎-elim (λ (h : w < k). simp (lt-ltb w k h)) (λ (h : k ≤ w). simp (le-ltb w k h, le-ltb w 0 (omega arith))) (lt-or-le w k)
+-- the key is taken where it is above
+pub above-taken : (limit k w : ℕ) → cond (ltb 0 (keyAbove limit k)) (keyAbove limit k) w ≡ cond (ltb limit k) k w
+above-taken limit k w =
+    ⊎-elim (λ (h : limit < k). simp (lt-ltb limit k h, lt-ltb 0 k (omega arith))) (λ (h : k ≤ limit). simp (le-ltb limit k h)) (lt-or-le limit k)
 
 -- ---- a map row
 

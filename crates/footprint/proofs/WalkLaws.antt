@@ -1,29 +1,32 @@
 -- Laws of the walk: a map row lent as a part, the map with one row more, and the answer from the whole.
 use mathlib.Core.Path.{_≡_, refl, sym, ap, ap₂, _∙_}
-use mathlib.Core.Bool.{Bool, false, cond}
+use mathlib.Core.Logic.{⊎-elim}
+use mathlib.Core.Bool.{Bool, true, false, cond, not, _||_, _&&_}
 use mathlib.Core.List.{List}
 use Prim.Native.Nat.{ℕ, zero, suc, _+_, _-_, _*_, _/_, _%_, _^_, _≤_, _<_}
-use native.Mathlib.Nat.{le-trans, le-of-suc-le-suc}
+use native.Mathlib.Nat.{zero-mul, add-zero, le-of-eq, le-trans, le-of-suc-le-suc, mul-pos, mul-le-mul-right}
 use native.Mathlib.Omega.{arith}
-use borrow.Author.Tests.{ltb-false}
-use lib.Dec.{ltb}
+use borrow.Author.Tests.{ltb-false, lt-ltb, le-ltb, ne-eqb}
+use lib.Dec.{ltb, eqb}
 use lib.ListN.{length, getD}
 use Rattle.arithmetic.specs.Lists.{part}
-use Rattle.arithmetic.specs.SumsAndMaxima.{sumBelow, maxBelow, firstMaxBelow}
-use Rattle.arithmetic.proofs.TestLaws.{any-none}
+use Rattle.arithmetic.specs.SumsAndMaxima.{sumBelow, maxBelow, firstMaxBelow, firstBest}
+use Rattle.arithmetic.proofs.TestLaws.{any-none, inside, lt-or-le, cond-le}
 use Rattle.arithmetic.proofs.PartLaws.{slice-length, slice-at}
-use Rattle.arithmetic.proofs.SumLaws.{sum-same, max-same, first-same, sum-add, max-add, first-next, sum-le, max-le, first-lt, first-at, max-rows, first-rows, firstInRow}
-use Rattle.footprint.specs.Map.{mapCells, mapRows, mapColumns, largestCount, countAt, bitAt, markAt, keyAt, peopleAt, tableRow, highestRow, firstLargest, cellsIn, wrongCount, foundFootprint}
-use Rattle.footprint.specs.Walk.{keyMax, rowKey, markedCount, keyAbove, rowWalk, withRow, largestKeyIn, mapWalk}
+use Rattle.arithmetic.proofs.SumLaws.{sum-same, max-same, first-same, max-map, sum-add, sum-le, max-le, first-lt, first-at, max-rows, first-rows, rowMax, firstInRow, le-max}
+use Rattle.arithmetic.proofs.BestLaws.{best-first, best-one, best-le, best-lt, best-next, best-is-first, first-order, first-value}
+use Rattle.map.specs.Size.{mapCells, mapRows, mapColumns}
+use Rattle.map.specs.Map.{largestCount, Map, countAt, bitAt, markAt, cellsIn}
+use Rattle.map.specs.TableRow.{tableRow}
+use Rattle.map.specs.Refusals.{wrongCount}
+use Rattle.footprint.specs.Footprint.{peopleAt, highestRow, worse, worstPlace, acceptedFootprint}
+use Rattle.footprint.specs.PrivateWalk.{keyMax, keyAt, rowKey, markedCount, keyAbove, rowWalk, withRow, largestKeyIn, rowWorse, worstRow, mapWalk}
 use Rattle.footprint.specs.declared.row.RowWalk.{RowWalk}
 use Rattle.footprint.specs.declared.walk.MapWalk.{MapWalk}
-use Rattle.footprint.proofs.CellLaws.{mark-lt, marked-le, key-le, no-key, rowOfKey, row-of-largest}
-use Rattle.footprint.proofs.RowLaws.{max-above, less-above}
-
--- every count is in its range where the test of refusal 7 failed
-pub counts-small : (counts : List ℕ) → wrongCount counts ≡ false → (i : ℕ) → i < mapCells → countAt counts i ≤ largestCount
-counts-small counts h i l =
-    ltb-false largestCount (countAt counts i) (any-none (λ p. ltb largestCount (countAt counts p)) mapCells h i l)
+use Rattle.map.proofs.MarkLaws.{mark-lt, mark-here}
+use Rattle.map.proofs.TestsPassed.{counts-small}
+use Rattle.footprint.proofs.CellLaws.{marked-le, key-le, no-key, by-keys, rowOfKey, row-of-largest}
+use Rattle.footprint.proofs.RowLaws.{above-pos, above-taken, row-empty}
 
 -- ---- a map row lent as a part of the map's counts
 
@@ -40,13 +43,8 @@ module _ (counts marks : List ℕ) (r : ℕ) where
   pub lent-small : r < mapRows → wrongCount counts ≡ false → (i : ℕ) → i < mapColumns → countAt lent i ≤ largestCount
   lent-small h s i l = omega (arith, lent-at i l, counts-small counts s (mapColumns * r + i) (omega arith))
 
-  pub mark-here : (i : ℕ) → i < mapColumns → bitAt (getD marks r 0) i ≡ markAt marks (mapColumns * r + i)
-  mark-here i l =
-      let q : (mapColumns * r + i) / mapColumns ≡ r = omega arith in
-      let m : (mapColumns * r + i) % mapColumns ≡ i = omega arith in rw (q, m)
-
   key-here : (i : ℕ) → i < mapColumns → rowKey lent (getD marks r 0) i ≡ keyAt counts marks (mapColumns * r + i)
-  key-here i l = ap₂ (λ (m x : ℕ). m * (x + 1)) (mark-here i l) (lent-at i l)
+  key-here i l = ap₂ (λ (m x : ℕ). m * (x + 1)) (mark-here marks r i l) (lent-at i l)
 
   pub first-here : firstMaxBelow (rowKey lent (getD marks r 0)) mapColumns ≡ firstMaxBelow (λ c. keyAt counts marks (mapColumns * r + c)) mapColumns
   first-here = first-same (rowKey lent (getD marks r 0)) (λ c. keyAt counts marks (mapColumns * r + c)) mapColumns key-here
@@ -54,95 +52,180 @@ module _ (counts marks : List ℕ) (r : ℕ) where
   pub worst-here : maxBelow (rowKey lent (getD marks r 0)) mapColumns ≡ largestKeyIn counts marks r
   worst-here = max-same (rowKey lent (getD marks r 0)) (λ c. keyAt counts marks (mapColumns * r + c)) mapColumns key-here
 
-  row-here : (worst : ℕ) → rowWalk lent (getD marks r 0) worst ≡ record {
-    worst = keyAbove worst (largestKeyIn counts marks r);
+  row-here : (limit : ℕ) → rowWalk lent (getD marks r 0) limit ≡ record {
+    worst = keyAbove limit (largestKeyIn counts marks r);
     people = sumBelow (λ c. markAt marks (mapColumns * r + c) * countAt counts (mapColumns * r + c)) mapColumns;
     cells = sumBelow (λ c. markAt marks (mapColumns * r + c)) mapColumns;
   }
-  row-here worst =
-      let t = ap (keyAbove worst) worst-here in
+  row-here limit =
+      let t = ap (keyAbove limit) worst-here in
       let p = sum-same (markedCount lent (getD marks r 0)) (λ c. markAt marks (mapColumns * r + c) * countAt counts (mapColumns * r + c)) mapColumns
-      (λ i l. ap₂ (λ (m x : ℕ). m * x) (mark-here i l) (lent-at i l)) in
-      let k = sum-same (bitAt (getD marks r 0)) (λ c. markAt marks (mapColumns * r + c)) mapColumns mark-here in
+      (λ i l. ap₂ (λ (m x : ℕ). m * x) (mark-here marks r i l) (lent-at i l)) in
+      let k = sum-same (bitAt (getD marks r 0)) (λ c. markAt marks (mapColumns * r + c)) mapColumns (mark-here marks r) in
       λ i. record { worst = t i; people = p i; cells = k i }
 
-  -- ---- the map with one row more
+  -- no key of a row is above the largest
+  pub largest-small : r < mapRows → wrongCount counts ≡ false → largestKeyIn counts marks r ≤ keyMax
+  largest-small l h =
+      max-le (λ c. keyAt counts marks (mapColumns * r + c)) keyMax mapColumns
+      (λ c m. key-le (markAt marks (mapColumns * r + c)) (countAt counts (mapColumns * r + c)) (mark-lt marks (mapColumns * r + c)) (counts-small counts h (mapColumns * r + c) (omega arith)))
 
-  -- no key so far is above the largest
-  pub worst-small : {w : MapWalk} → w ≡ mapWalk counts marks r → r < mapRows → wrongCount counts ≡ false → w .worst ≤ keyMax
-  worst-small e l h =
-      omega (
-        arith,
-        ap (λ (x : MapWalk). x .worst) e,
-        max-le (keyAt counts marks) keyMax (mapColumns * r)
-            (λ i m. key-le (markAt marks i) (countAt counts i) (mark-lt marks i) (counts-small counts h i (omega arith))),
+-- ---- the map with one row more
+
+-- a key that is taken where it is above 0
+taken : (k : ℕ) → cond (ltb 0 k) k 0 ≡ k
+taken zero = refl
+taken (suc k) = simp (lt-ltb 0 (suc k) (omega arith))
+
+-- a choice goes through a function
+through : (f : ℕ → ℕ) (t : Bool) (x y : ℕ) → cond t (f x) (f y) ≡ f (cond t x y)
+through f true x y = refl
+through f false x y = refl
+
+module _ (counts marks : List ℕ) where
+  abbrev worstAt : ℕ → ℕ
+  worstAt n = cond (eqb n 0) 0 (largestKeyIn counts marks (worstRow counts marks n))
+
+  worst-at : (n : ℕ) → 0 < n → worstAt n ≡ largestKeyIn counts marks (worstRow counts marks n)
+  worst-at n h = simp (ne-eqb n 0 (λ e. omega arith))
+
+  -- the row r is worse than the rows before exactly where its largest key is above the limit
+  limit-here : (r : ℕ) → 0 < r → ltb (worstAt r) (largestKeyIn counts marks r) ≡ rowWorse counts marks r (worstRow counts marks r)
+  limit-here r h = ap (λ (k : ℕ). ltb k (largestKeyIn counts marks r)) (worst-at r h)
+
+  next-row : (r : ℕ) → cond (ltb (worstAt r) (largestKeyIn counts marks r)) r (worstRow counts marks r) ≡ worstRow counts marks (r + 1)
+  next-row zero = best-first (rowWorse counts marks) (ltb (worstAt 0) (largestKeyIn counts marks 0))
+  next-row (suc n) =
+      ap (λ (t : Bool). cond t (suc n) (worstRow counts marks (suc n))) (limit-here (suc n) (omega arith))
+      ∙ sym (best-next (rowWorse counts marks) (suc n))
+
+  next-worst : (r : ℕ) → cond (ltb (worstAt r) (largestKeyIn counts marks r)) (largestKeyIn counts marks r) (worstAt r) ≡ worstAt (r + 1)
+  next-worst zero = taken (largestKeyIn counts marks 0) ∙ ap (largestKeyIn counts marks) (sym (best-one (rowWorse counts marks)))
+  next-worst (suc n) =
+      let r : ℕ = suc n in
+      let t : Bool = ltb (worstAt r) (largestKeyIn counts marks r) in
+      ap (cond t (largestKeyIn counts marks r)) (worst-at r (omega arith))
+      ∙ through (largestKeyIn counts marks) t r (worstRow counts marks r)
+      ∙ ap (largestKeyIn counts marks) (next-row r)
+      ∙ sym (worst-at (r + 1) (omega arith))
+
+  module _ (c-in : wrongCount counts ≡ false) (r : ℕ) (l : r < mapRows) {w : MapWalk} (before : w ≡ mapWalk counts marks r) where
+    pub row-in : w .row < mapRows
+    row-in = omega (arith, ap (λ (x : MapWalk). x .row) before, best-le (rowWorse counts marks) r)
+
+    -- no key so far is above the largest
+    pub worst-small : w .worst ≤ keyMax
+    worst-small =
+        rw (ap (λ (x : MapWalk). x .worst) before)
+        (cond-le (eqb r 0) (omega arith) (largest-small counts marks (worstRow counts marks r) (omega (arith, best-le (rowWorse counts marks) r)) c-in))
+
+    module _ {b : RowWalk} (row : b ≡ rowWalk (lent counts marks r) (getD marks r 0) (w .worst)) where
+      pub map-next : withRow w b r ≡ mapWalk counts marks (r + 1)
+      map-next =
+          let e : mapColumns * r + mapColumns ≡ mapColumns * (r + 1) = omega arith in
+          let p = sym (sum-add (peopleAt counts marks) (mapColumns * r) mapColumns) ∙ ap (sumBelow (peopleAt counts marks)) e in
+          let k = sym (sum-add (markAt marks) (mapColumns * r) mapColumns) ∙ ap (sumBelow (markAt marks)) e in
+          let t = above-taken (worstAt r) (largestKeyIn counts marks r) (worstAt r)
+          ∙ next-worst r in
+          let s = ap (λ (t : Bool). cond t r (worstRow counts marks r)) (above-pos (worstAt r) (largestKeyIn counts marks r))
+          ∙ next-row r in
+          let b-is = row ∙ ap (rowWalk (lent counts marks r) (getD marks r 0)) (ap (λ (x : MapWalk). x .worst) before) ∙ row-here counts marks r (worstAt r) in
+          ap₂ (λ (x : MapWalk) (y : RowWalk). withRow x y r) before b-is ∙ (λ i. record { worst = t i; row = s i; people = p i; cells = k i })
+
+      -- the sums fit their types
+      pub map-fits : ((p : ℕ) → countAt counts p < 2 ^ 32) → (w .people + b .people < 2 ^ 64) × (w .cells + b .cells < 2 ^ 32)
+      map-fits h = (
+        omega (arith, ap (λ (x : MapWalk). x .people) map-next, sum-le (peopleAt counts marks) (2 ^ 32) (mapColumns * (r + 1)) (λ i m. le-trans (marked-le (markAt marks i) (countAt counts i) (mark-lt marks i)) (omega (arith, h i)))),
+        omega (arith, ap (λ (x : MapWalk). x .cells) map-next, sum-le (markAt marks) 1 (mapColumns * (r + 1)) (λ i m. le-of-suc-le-suc (mark-lt marks i))),
       )
 
-  module _ {w : MapWalk} {b : RowWalk} (before : w ≡ mapWalk counts marks r) (row : b ≡ rowWalk lent (getD marks r 0) (w .worst)) where
-    pub map-next : withRow w b r ≡ mapWalk counts marks (r + 1)
-    map-next =
-        let e : mapColumns * r + mapColumns ≡ mapColumns * (r + 1) = omega arith in
-        let t = max-above (maxBelow (keyAt counts marks) (mapColumns * r)) (largestKeyIn counts marks r)
-        ∙ sym (max-add (keyAt counts marks) (mapColumns * r) mapColumns) ∙ ap (maxBelow (keyAt counts marks)) e in
-        let p = sym (sum-add (peopleAt counts marks) (mapColumns * r) mapColumns) ∙ ap (sumBelow (peopleAt counts marks)) e in
-        let k = sym (sum-add (markAt marks) (mapColumns * r) mapColumns) ∙ ap (sumBelow (markAt marks)) e in
-        let s = ap (λ (t : Bool). cond t r (firstMaxBelow (largestKeyIn counts marks) r)) (less-above (maxBelow (keyAt counts marks) (mapColumns * r)) (largestKeyIn counts marks r))
-        ∙ ap (λ (x : ℕ). cond (ltb x (largestKeyIn counts marks r)) r (firstMaxBelow (largestKeyIn counts marks) r)) (sym (max-rows (keyAt counts marks) mapColumns r))
-        ∙ sym (first-next (largestKeyIn counts marks) r) in
-        ap₂ (λ (x : MapWalk) (y : RowWalk). withRow x y r) before (row ∙ ap (λ (x : MapWalk). rowWalk lent (getD marks r 0) (x .worst)) before ∙ row-here (maxBelow (keyAt counts marks) (mapColumns * r))) ∙ (λ i. record { worst = t i; row = s i; people = p i; cells = k i })
+    -- a row with no mark leaves the walk as it is
+    pub map-passed : getD marks r 0 ≡ 0 → w ≡ mapWalk counts marks (r + 1)
+    map-passed z =
+        let row = row-empty (lent counts marks r) (w .worst)
+        ∙ ap (λ (bits : ℕ). rowWalk (lent counts marks r) bits (w .worst)) (sym z) in
+        let p = sym (add-zero (w .people)) in
+        let k = sym (add-zero (w .cells)) in
+        (λ i. record { worst = w .worst; row = w .row; people = p i; cells = k i }) ∙ map-next row
 
-    -- the sums fit their types
-    pub map-fits : r < mapRows → ((p : ℕ) → countAt counts p < 2 ^ 32) → (w .people + b .people < 2 ^ 64) × (w .cells + b .cells < 2 ^ 32)
-    map-fits l h = (
-      omega (arith, ap (λ (x : MapWalk). x .people) map-next, sum-le (peopleAt counts marks) (2 ^ 32) (mapColumns * (r + 1)) (λ i m. le-trans (marked-le (markAt marks i) (countAt counts i) (mark-lt marks i)) (omega (arith, h i)))),
-      omega (arith, ap (λ (x : MapWalk). x .cells) map-next, sum-le (markAt marks) 1 (mapColumns * (r + 1)) (λ i m. le-of-suc-le-suc (mark-lt marks i))),
-    )
+-- ---- the order of all cells by their keys
 
--- ---- the answer, from the walk over all rows
+-- a cell is worse exactly where its key is larger
+pub worse-by-key : (map : Map) (marks : List ℕ) (q p : ℕ) → worse map marks q p ≡ ltb (keyAt (map .counts) marks p) (keyAt (map .counts) marks q)
+worse-by-key map marks q p =
+    by-keys (markAt marks q) (markAt marks p) (countAt (map .counts) q) (countAt (map .counts) p) (mark-lt marks q) (mark-lt marks p)
 
-module _ (counts marks : List ℕ) {w : MapWalk} (w-is : w ≡ mapWalk counts marks mapRows) where
-  pub cells-all : w .cells ≡ cellsIn marks
-  cells-all = ap (λ (x : MapWalk). x .cells) w-is
+pub place-is : (map : Map) (marks : List ℕ) → worstPlace map marks ≡ firstMaxBelow (keyAt (map .counts) marks) mapCells
+place-is map marks = best-is-first (worse map marks) (keyAt (map .counts) marks) mapCells (λ q p hq hp. worse-by-key map marks q p)
 
-  pub row-lt : w .row < mapRows
-  row-lt = omega (arith, ap (λ (x : MapWalk). x .row) w-is, first-lt (largestKeyIn counts marks) mapRows (omega arith))
+module _ (counts marks : List ℕ) where
+  row-is : worstRow counts marks mapRows ≡ firstMaxBelow (largestKeyIn counts marks) mapRows
+  row-is = best-is-first (rowWorse counts marks) (largestKeyIn counts marks) mapRows (λ q p hq hp. refl)
 
-  module _ (some : 0 < w .cells) where
-    pub worst-pos : 0 < w .worst
-    worst-pos = by-cases (w .worst) refl
+  -- where a cell is marked, the keys aren't all 0
+  module _ (some : 0 < cellsIn marks) where
+    pub some-place : 0 < maxBelow (keyAt counts marks) mapCells
+    some-place = by-cases (maxBelow (keyAt counts marks) mapCells) refl
       where
-        by-cases : (n : ℕ) → w .worst ≡ n → 0 < w .worst
-        by-cases zero e =
-            let none = no-key (markAt marks) (countAt counts) mapCells (sym (ap (λ (x : MapWalk). x .worst) w-is) ∙ e) in
-            let wrong : ⊥ = omega (arith, cells-all, none) in absurd wrong
+        by-cases : (n : ℕ) → maxBelow (keyAt counts marks) mapCells ≡ n → 0 < maxBelow (keyAt counts marks) mapCells
+        by-cases zero e = let wrong : ⊥ = omega (arith, no-key (markAt marks) (countAt counts) mapCells e) in absurd wrong
         by-cases (suc n) e = omega arith
 
-    row-all : (area : ℕ) → tableRow (w .worst - 1) area ≡ highestRow counts marks area
-    row-all area =
-        let e : suc (w .worst - 1) ≡ w .worst = omega (arith, worst-pos) in
-        ap (rowOfKey area) (e ∙ ap (λ (x : MapWalk). x .worst) w-is)
-        ∙ sym (row-of-largest area (markAt marks) (countAt counts) (mark-lt marks) mapCells)
+    -- the first worst cell is in the first worst row
+    pub first-by-row : firstMaxBelow (keyAt counts marks) mapCells ≡ firstInRow (keyAt counts marks) mapColumns (worstRow counts marks mapRows)
+    first-by-row =
+        first-rows (keyAt counts marks) mapColumns mapRows some-place
+        ∙ ap (firstInRow (keyAt counts marks) mapColumns) (sym row-is)
 
-    place-all : mapColumns * w .row + firstMaxBelow (rowKey (lent counts marks (w .row)) (getD marks (w .row) 0)) mapColumns ≡ firstLargest counts marks
-    place-all =
-        ap (λ (x : ℕ). mapColumns * w .row + x) (first-here counts marks (w .row))
-        ∙ ap (firstInRow (keyAt counts marks) mapColumns) (ap (λ (x : MapWalk). x .row) w-is)
-        ∙ sym (first-rows (keyAt counts marks) mapColumns mapRows (omega (arith, worst-pos, ap (λ (x : MapWalk). x .worst) w-is)))
+    pub row-largest : largestKeyIn counts marks (worstRow counts marks mapRows) ≡ maxBelow (keyAt counts marks) mapCells
+    row-largest =
+        ap (largestKeyIn counts marks) row-is ∙ first-value (largestKeyIn counts marks) mapRows (omega arith) ∙ max-rows (keyAt counts marks) mapColumns mapRows
 
-    -- the first worst row's largest key is the map's
-    pub worst-is : w .worst ≡ maxBelow (rowKey (lent counts marks (w .row)) (getD marks (w .row) 0)) mapColumns
-    worst-is =
-        let all : w .worst ≡ maxBelow (largestKeyIn counts marks) mapRows =
-        ap (λ (x : MapWalk). x .worst) w-is ∙ sym (max-rows (keyAt counts marks) mapColumns mapRows) in
-        all ∙ sym (first-at (largestKeyIn counts marks) mapRows (omega (arith, worst-pos, all)))
-        ∙ ap (largestKeyIn counts marks) (sym (ap (λ (x : MapWalk). x .row) w-is))
-        ∙ sym (worst-here counts marks (w .row))
+-- ---- the answer, from the walk over all rows of a map that isn't refused
 
-    pub answer : (area : ℕ) {row column : ℕ} → row ≡ tableRow (w .worst - 1) area
-        → column ≡ firstMaxBelow (rowKey (lent counts marks (w .row)) (getD marks (w .row) 0)) mapColumns
-        → record { refusal = 0; row = row; place = mapColumns * w .row + column; people = w .people; cells = w .cells } ≡ foundFootprint counts marks area
-    answer area er ec =
-        let r = er ∙ row-all area in
-        let p = ap (λ (x : ℕ). mapColumns * w .row + x) ec ∙ place-all in
-        let s = ap (λ (x : MapWalk). x .people) w-is in
-        λ i. record { refusal = 0; row = r i; place = p i; people = s i; cells = cells-all i }
+module _ (counts marks : List ℕ) {w : MapWalk} (w-is : w ≡ mapWalk counts marks mapRows) where
+  pub row-lt : w .row < mapRows
+  row-lt = omega (arith, ap (λ (x : MapWalk). x .row) w-is, best-lt (rowWorse counts marks) mapRows (omega arith))
+
+  worst-all : w .worst ≡ largestKeyIn counts marks (w .row)
+  worst-all = ap (λ (x : MapWalk). x .worst) w-is ∙ sym (ap (λ (x : MapWalk). largestKeyIn counts marks (x .row)) w-is)
+
+  pub worst-le : wrongCount counts ≡ false → w .worst ≤ keyMax
+  worst-le c-in = rw worst-all (largest-small counts marks (w .row) row-lt c-in)
+
+  -- the first worst row's largest key is the walk's
+  pub worst-is : w .worst ≡ maxBelow (rowKey (lent counts marks (w .row)) (getD marks (w .row) 0)) mapColumns
+  worst-is = worst-all ∙ sym (worst-here counts marks (w .row))
+
+  module _ (some : 0 < cellsIn marks) where
+    worst-largest : w .worst ≡ maxBelow (keyAt counts marks) mapCells
+    worst-largest = ap (λ (x : MapWalk). x .worst) w-is ∙ row-largest counts marks some
+
+    pub worst-pos : 0 < w .worst
+    worst-pos = le-trans (some-place counts marks some) (le-of-eq (sym worst-largest))
+
+    module _ (area : ℕ) where
+      abbrev map : Map
+      map = record { counts = counts; cell-area = area }
+
+      row-all : tableRow (w .worst - 1) area ≡ highestRow map marks
+      row-all =
+          let e : suc (w .worst - 1) ≡ w .worst = omega (arith, worst-pos) in
+          ap (rowOfKey area) (e ∙ worst-largest)
+          ∙ sym (row-of-largest area (markAt marks) (countAt counts) (mark-lt marks) mapCells)
+
+      place-all : mapColumns * w .row + firstMaxBelow (λ c. keyAt counts marks (mapColumns * w .row + c)) mapColumns ≡ worstPlace map marks
+      place-all =
+          ap (firstInRow (keyAt counts marks) mapColumns) (ap (λ (x : MapWalk). x .row) w-is)
+          ∙ sym (first-by-row counts marks some)
+          ∙ sym (place-is map marks)
+
+      pub answer : {row column : ℕ} → row ≡ tableRow (w .worst - 1) area
+          → column ≡ firstMaxBelow (rowKey (lent counts marks (w .row)) (getD marks (w .row) 0)) mapColumns
+          → record { refusal = 0; row = row; place = mapColumns * w .row + column; people = w .people; cells = w .cells } ≡ acceptedFootprint map marks
+      answer er ec =
+          let r = er ∙ row-all in
+          let p = ap (λ (x : ℕ). mapColumns * w .row + x) (ec ∙ first-here counts marks (w .row)) ∙ place-all in
+          let s = ap (λ (x : MapWalk). x .people) w-is in
+          let k = ap (λ (x : MapWalk). x .cells) w-is in
+          λ i. record { refusal = 0; row = r i; place = p i; people = s i; cells = k i }

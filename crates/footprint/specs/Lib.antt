@@ -1,5 +1,4 @@
-pub mod Map
-pub mod Counts
-pub mod Walk
+pub mod Footprint
 pub mod Promises
 pub mod Points
+pub mod PrivateWalk

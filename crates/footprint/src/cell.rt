@@ -1,41 +1,11 @@
-// One cell: its table row, the key by which marked cells are compared, and its count where it is marked.
+// One cell: the key by which marked cells are compared, and its count where it is marked.
 ghost use mathlib.Core.Path.{_≡_};
 ghost use Prim.Native.Nat.{_+_, _*_, _<_, _≤_};
 ghost use lib.ListN.{length};
-ghost use Rattle.footprint.specs.Map.{mapColumns, largestCount, bitAt, belowDensity, tableRow};
-ghost use Rattle.footprint.specs.Walk.{Masks, markedCount};
-
-// The square metres of a square kilometre.
-const SQUARE_KILOMETRE: u64 = 1000000;
-
-// Whether a cell has fewer people per square kilometre than `density`. Nothing is divided.
-fn below_density(people: u32, area: u32, density: u32) -> bool
-    ensures { λ r. ⌜ r ≡ belowDensity people area density ⌝ }
-{
-    people as u64 * SQUARE_KILOMETRE < density as u64 * area as u64
-}
-
-// The table row of a cell.
-pub(crate) fn table_row(people: u32, area: u32) -> u8
-    ensures { λ r. ⌜ r ≡ tableRow people area ⌝ }
-{
-    if below_density(people, area, 5) {
-        return 2;
-    }
-    if below_density(people, area, 50) {
-        return 3;
-    }
-    if below_density(people, area, 500) {
-        return 4;
-    }
-    if below_density(people, area, 5000) {
-        return 5;
-    }
-    if below_density(people, area, 50000) {
-        return 6;
-    }
-    7
-}
+ghost use Rattle.map.specs.Size.{mapColumns};
+ghost use Rattle.map.specs.Map.{largestCount, bitAt};
+ghost use Rattle.map.specs.TableRow.{belowDensity, tableRow};
+ghost use Rattle.footprint.specs.PrivateWalk.{Masks, markedCount};
 
 // A cell's key: one more than its count where it is marked, else 0, so that any marked cell is above any other, with no branch.
 pub(crate) fn key(bits: u64, column: usize, count: u32) -> u32

@@ -1,19 +1,20 @@
 // One map row: the people of its marked cells, their largest key, and the first cell that has it.
-use crate::ROW_CELLS;
 use crate::cell::key;
 use crate::cell::marked_count;
 use arithmetic::difference_or_zero;
+use map::MAP_COLUMNS;
 ghost use mathlib.Core.Path.{_≡_};
 ghost use Prim.Native.Nat.{ℕ, _+_, _^_, _<_, _≤_, max};
 ghost use lib.ListN.{length};
 ghost use Rattle.arithmetic.specs.SumsAndMaxima.{maxBelow, firstMaxBelow};
-ghost use Rattle.footprint.specs.Map.{mapColumns, largestCount, countAt};
-ghost use Rattle.footprint.specs.Walk.{Masks, keyMax, rowKey, withCell, rowSum, rowWalk};
+ghost use Rattle.map.specs.Size.{mapColumns};
+ghost use Rattle.map.specs.Map.{largestCount, countAt};
+ghost use Rattle.footprint.specs.PrivateWalk.{Masks, keyMax, rowKey, withCell, rowSum, rowWalk};
 
 // A step over a map row takes four cells.
-const STEPS: usize = ROW_CELLS / 4;
+const STEPS: usize = MAP_COLUMNS / 4;
 
-// A map row: its largest key where that is above all keys before it, else 0, and the people and the number of its marked cells.
+// A map row: its largest key where that is above a limit, else 0, and the people and the number of its marked cells.
 pub(crate) struct RowWalk {
     pub worst: u32,
     pub people: u32,
@@ -84,29 +85,22 @@ fn largest_key(counts: &[u32], bits: u64) -> u32
 {
     let mut worst: u32 = 0;
     let mut c: usize = 0;
-    while c < ROW_CELLS {
+    while c < MAP_COLUMNS {
         worst = larger(worst, key(bits, c, counts[c]));
         c += 1;
     }
     worst
 }
 
-// A map row after rows whose largest key is `worst`. Its own is looked for only where a marked count says that it is larger, or where no cell before is marked.
-pub(crate) fn walk_row(masks: &[[u32; 4]], counts: &[u32], bits: u64, worst: u32) -> RowWalk
-    requires { ⌜ Masks (now masks) × (length (now counts) ≡ mapColumns) × ((i : ℕ) → i < mapColumns → countAt (now counts) i ≤ largestCount) × (worst ≤ keyMax) ⌝ }
-    ensures { λ r. ⌜ r ≡ rowWalk (now (counts .entry)) bits worst ⌝ }
+// A map row, and its largest key where that is above `limit`. It is looked for only where a marked count says that it is, or where the limit is 0.
+pub(crate) fn walk_row(masks: &[[u32; 4]], counts: &[u32], bits: u64, limit: u32) -> RowWalk
+    requires { ⌜ Masks (now masks) × (length (now counts) ≡ mapColumns) × ((i : ℕ) → i < mapColumns → countAt (now counts) i ≤ largestCount) × (limit ≤ keyMax) ⌝ }
+    ensures { λ r. ⌜ r ≡ rowWalk (now (counts .entry)) bits limit ⌝ }
 {
-    if bits == 0 {
-        return RowWalk {
-            worst: 0,
-            people: 0,
-            cells: 0,
-        };
-    }
-    let limit = difference_or_zero(worst as u64, 1) as u32;
-    let sum = sum_row(masks, counts, bits, limit);
+    let count_limit = difference_or_zero(limit as u64, 1) as u32;
+    let sum = sum_row(masks, counts, bits, count_limit);
     let cells = u64::count_ones(bits);
-    if (worst == 0) | sum.above {
+    if (limit == 0) | sum.above {
         return RowWalk {
             worst: largest_key(counts, bits),
             people: sum.people,
@@ -126,7 +120,7 @@ pub(crate) fn first_worst(counts: &[u32], bits: u64, worst: u32) -> usize
     ensures { λ r. ⌜ r ≡ firstMaxBelow (rowKey (now (counts .entry)) bits) mapColumns ⌝ }
 {
     let mut c: usize = 0;
-    while c < ROW_CELLS {
+    while c < MAP_COLUMNS {
         if key(bits, c, counts[c]) == worst {
             return c;
         }

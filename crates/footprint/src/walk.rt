@@ -1,17 +1,18 @@
 // The walk over the map, row by row.
-use crate::MAP_ROWS;
-use crate::ROW_CELLS;
 use crate::cell::MASKS;
 use crate::row::RowWalk;
 use crate::row::walk_row;
+use map::MAP_COLUMNS;
+use map::MAP_ROWS;
 ghost use mathlib.Core.Path.{_≡_};
 ghost use mathlib.Core.Bool.{false};
 ghost use Prim.Native.Nat.{_+_, _^_, _<_};
 ghost use lib.ListN.{length};
-ghost use Rattle.footprint.specs.Map.{mapCells, mapRows, wrongCount};
-ghost use Rattle.footprint.specs.Walk.{withRow, mapWalk};
+ghost use Rattle.map.specs.Size.{mapCells, mapRows};
+ghost use Rattle.map.specs.Refusals.{wrongCount};
+ghost use Rattle.footprint.specs.PrivateWalk.{withRow, mapWalk};
 
-// The map rows so far, and the first of them with the largest key.
+// The map rows so far: the first worst row, and its largest key.
 pub(crate) struct MapWalk {
     pub worst: u32,
     pub row: usize,
@@ -26,7 +27,7 @@ fn with_row(w: MapWalk, b: RowWalk, r: usize) -> MapWalk
 {
     let people = w.people + b.people as u64;
     let cells = w.cells + b.cells;
-    if w.worst < b.worst {
+    if 0 < b.worst {
         return MapWalk {
             worst: b.worst,
             row: r,
@@ -42,7 +43,7 @@ fn with_row(w: MapWalk, b: RowWalk, r: usize) -> MapWalk
     }
 }
 
-// All map rows, each lent as its own 64 counts.
+// All map rows, each lent as its own 64 counts. A row with no mark is passed over.
 pub(crate) fn walk_map(counts: &[u32], marks: &[u64]) -> MapWalk
     requires { ⌜ (length (now counts) ≡ mapCells) × (length (now marks) ≡ mapRows) × (wrongCount (now counts) ≡ false) ⌝ }
     ensures { λ r. ⌜ r ≡ mapWalk (now (counts .entry)) (now (marks .entry)) mapRows ⌝ }
@@ -57,9 +58,12 @@ pub(crate) fn walk_map(counts: &[u32], marks: &[u64]) -> MapWalk
     let masks = MASKS;
     let mut r: usize = 0;
     while r < MAP_ROWS {
-        let from = ROW_CELLS * r;
-        let to = from + ROW_CELLS;
-        w = with_row(w, walk_row(&masks, &counts[from..to], marks[r], w.worst), r);
+        let bits = marks[r];
+        if bits != 0 {
+            let from = MAP_COLUMNS * r;
+            let to = from + MAP_COLUMNS;
+            w = with_row(w, walk_row(&masks, &counts[from..to], bits, w.worst), r);
+        }
         r += 1;
     }
     w

@@ -72,8 +72,8 @@ module _ (t : List ℕ) (none : assessmentIn t .refusal ≡ 0) where
   demand : Demand3 w m v (countsOf t) (marksOf t) (headOf t .«cell_area») (headOf t .controlled) (headOf t .word)
   demand = demand-3 w m v (parts .sheet-given) (countsOf t) (marksOf t) (headOf t .«cell_area») (headOf t .controlled) (headOf t .word)
 
-  ranges : FootprintRanges (countsOf t) (marksOf t) (headOf t .«cell_area»)
-  ranges = footprint-promise (countsOf t) (marksOf t) (headOf t .«cell_area») .ranges (parts .footprint-given)
+  ranges : FootprintRanges (record { counts = countsOf t; cell-area = headOf t .«cell_area» }) (marksOf t)
+  ranges = footprint-promise (record { counts = countsOf t; cell-area = headOf t .«cell_area» }) (marksOf t) .ranges (parts .footprint-given)
 
   fits : FrameFits (printedFields (assessmentIn t))
   fits =

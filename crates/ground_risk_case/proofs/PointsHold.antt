@@ -20,8 +20,10 @@ use Rattle.sheet.specs.Lines.{runOf, savingOf, totalOf, formulaOf, areaOf}
 use Rattle.sheet.specs.Sheet.{withLines, linesOf, sheetOf}
 use Rattle.sheet.specs.Points.{sheetPoints}
 use Rattle.sheet.proofs.PointsHold.{sheet-points-hold}
-use Rattle.footprint.specs.Points.{P16Map, rowPoints}
-use Rattle.footprint.proofs.PointsHold.{row-points-hold, p16-footprint}
+use Rattle.map.specs.Points.{rowPoints}
+use Rattle.map.proofs.PointsHold.{row-points-hold}
+use Rattle.footprint.specs.Points.{P16Map}
+use Rattle.footprint.proofs.PointsHold.{p16-footprint}
 use Rattle.risk_class.specs.ClassTable.{classAt, intrinsicClassOf}
 use Rattle.risk_class.specs.Mitigation.{creditAt, finalClassOf}
 use Rattle.risk_class.specs.Points.{finalPoints}

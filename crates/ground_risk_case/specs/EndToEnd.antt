@@ -12,7 +12,7 @@ use Rattle.sheet.specs.Sheet.{sheetOf}
 use Rattle.exact_area.specs.ExactArea.{exactColumn}
 use Rattle.exact_area.specs.Accuracy.{AreaIsAccurate}
 use Rattle.footprint.specs.declared.Footprint.{Footprint}
-use Rattle.footprint.specs.Map.{footprintOf}
+use Rattle.footprint.specs.Footprint.{footprintOf}
 use Rattle.risk_class.specs.ClassTable.{usedRow}
 use Rattle.assessment.specs.Working.{given, Working, workingAt}
 use Rattle.case_text.specs.Text.{headOf, marksOf, countsOf}
@@ -26,7 +26,7 @@ abbrev pub sheetIn : List ℕ → Sheet
 sheetIn t = sheetOf (headOf t .dimension) (headOf t .mass) (headOf t .speed) .sheet
 
 abbrev pub footprintIn : List ℕ → Footprint
-footprintIn t = footprintOf (countsOf t) (marksOf t) (headOf t .«cell_area»)
+footprintIn t = footprintOf (record { counts = countsOf t; cell-area = headOf t .«cell_area» }) (marksOf t)
 
 abbrev pub exactColumnIn : List ℕ → ℕ
 exactColumnIn t = exactColumn (headOf t .dimension) (headOf t .mass) (headOf t .speed)

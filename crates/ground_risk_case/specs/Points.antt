@@ -8,7 +8,8 @@ use lib.ListN.{length}
 use Rattle.arithmetic.specs.Each.{Each}
 use Rattle.arithmetic.specs.Lists.{tabulate, stored}
 use Rattle.sheet.specs.Points.{SheetPoint, SheetPointHolds, sheetPoints}
-use Rattle.footprint.specs.Points.{RowPoint, RowPointHolds, rowPoints, P16Map}
+use Rattle.map.specs.Points.{RowPoint, RowPointHolds, rowPoints}
+use Rattle.footprint.specs.Points.{P16Map}
 use Rattle.risk_class.specs.Points.{FinalPoint, FinalPointHolds, finalPoints}
 use Rattle.case_text.specs.declared.CaseHead.{CaseHead}
 use Rattle.case_text.specs.Layout.{mapRows, mapCells}

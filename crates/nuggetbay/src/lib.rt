@@ -2,7 +2,7 @@
 ghost use mathlib.Core.Path.{_≡_};
 ghost use lib.ListN.{length};
 ghost use Rattle.sheet.specs.Sheet.{sheetOf};
-ghost use Rattle.footprint.specs.Map.{footprintOf};
+ghost use Rattle.footprint.specs.Footprint.{footprintOf};
 ghost use Rattle.risk_class.specs.ClassTable.{intrinsicClassOf};
 ghost use Rattle.risk_class.specs.Mitigation.{finalClassOf};
 ghost use Rattle.assessment.specs.Assessment.{assessmentOf};
@@ -36,7 +36,7 @@ pub extern "C" fn nb_sheet(dimension: u32, mass: u32, speed: u32) -> SheetAnswer
 // The footprint on a lent map.
 #[no_mangle]
 pub extern "C" fn nb_footprint(counts: &[u32], marks: &[u64], cell_area: u32) -> Footprint
-    ensures { λ r. ⌜ r ≡ footprintOf (now (counts .entry)) (now (marks .entry)) «cell_area» ⌝ }
+    ensures { λ r. ⌜ r ≡ footprintOf (record { counts = now (counts .entry); cell-area = «cell_area» }) (now (marks .entry)) ⌝ }
 {
     footprint_on_map(counts, marks, cell_area)
 }

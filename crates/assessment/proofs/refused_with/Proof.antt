@@ -6,8 +6,11 @@ use Rattle.assessment.proofs.refused_with.Tie as tie
 refused-requires : tie.Need-refused-requires
 refused-requires c κs = search needs
 
+refused-requires-2 : tie.Need-refused-requires-2
+refused-requires-2 c κs = search needs
+
 returns : tie.Need-returns
 returns c = cc
 
 pub refused-with-spec : {M : Type 1} → statement M
-refused-with-spec = tie.close (tie.spec refused-requires returns)
+refused-with-spec = tie.close (tie.spec refused-requires refused-requires-2 returns)

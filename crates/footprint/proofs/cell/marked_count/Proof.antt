@@ -4,7 +4,7 @@ use Prim.Native.Nat.{ℕ, _+_, _-_, _*_, _/_, _%_, _^_}
 use native.Mathlib.Omega.{arith}
 use borrow.Author.Needs.{needs}
 use lib.Bits.{bitAnd}
-use Rattle.footprint.specs.Map.{countAt, bitAt}
+use Rattle.map.specs.Map.{countAt, bitAt}
 use Rattle.footprint.proofs.CellLaws.{four-bit, masked}
 use Rattle.footprint.proofs.cell.marked_count.Statement.{statement}
 use Rattle.footprint.proofs.cell.marked_count.Tie as tie

@@ -4,8 +4,8 @@ use Prim.Native.Nat.{ℕ, _≤_, _<_, _-_}
 use native.Mathlib.Omega.{arith}
 use borrow.Author.Count.{below-more}
 use Rattle.arithmetic.proofs.SumLaws.{first-is, first-found}
-use Rattle.footprint.specs.Map.{mapColumns}
-use Rattle.footprint.specs.Walk.{rowKey}
+use Rattle.map.specs.Size.{mapColumns}
+use Rattle.footprint.specs.PrivateWalk.{rowKey}
 use Rattle.footprint.proofs.row.first_worst.Statement.{statement}
 use Rattle.footprint.proofs.row.first_worst.Tie as tie
 

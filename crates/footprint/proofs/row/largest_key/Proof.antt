@@ -4,8 +4,9 @@ use Prim.Native.Nat.{_-_, _≤_, max}
 use native.Mathlib.Omega.{arith}
 use Rattle.arithmetic.specs.SumsAndMaxima.{maxBelow}
 use Rattle.arithmetic.proofs.SumLaws.{max-next}
-use Rattle.footprint.specs.Map.{mapColumns, countAt, bitAt}
-use Rattle.footprint.specs.Walk.{keyMax, rowKey}
+use Rattle.map.specs.Size.{mapColumns}
+use Rattle.map.specs.Map.{countAt, bitAt}
+use Rattle.footprint.specs.PrivateWalk.{keyMax, rowKey}
 use Rattle.footprint.proofs.CellLaws.{key-le}
 use Rattle.footprint.proofs.row.largest_key.Statement.{statement}
 use Rattle.footprint.proofs.row.largest_key.Tie as tie

@@ -4,8 +4,9 @@ use Prim.Native.Nat.{ℕ, _+_, _-_, _*_, _^_, _≤_, _<_}
 use native.Mathlib.Omega.{arith}
 use lib.ListN.{length}
 use Rattle.arithmetic.specs.SumsAndMaxima.{sumBelow, maxBelow}
-use Rattle.footprint.specs.Map.{mapColumns, largestCount}
-use Rattle.footprint.specs.Walk.{Masks, markedCount, withCell, laneOf}
+use Rattle.map.specs.Size.{mapColumns}
+use Rattle.map.specs.Map.{largestCount}
+use Rattle.footprint.specs.PrivateWalk.{Masks, markedCount, withCell, laneOf}
 use Rattle.footprint.specs.declared.row.Lane.{Lane}
 use Rattle.footprint.proofs.RowLaws as law
 use Rattle.footprint.proofs.row.sum_row.Statement.{statement}

@@ -7,7 +7,7 @@ use borrow.Author.Needs.{needs}
 use lib.Bits.{bitOr}
 use lib.Dec.{ltb}
 use mir.Val.{boolByte}
-use Rattle.footprint.specs.Walk.{aboveLimit}
+use Rattle.footprint.specs.PrivateWalk.{aboveLimit}
 use Rattle.footprint.proofs.CellLaws.{signed-less, or-larger}
 use Rattle.footprint.proofs.RowLaws.{above-lt}
 use Rattle.footprint.proofs.row.with_cell.Statement.{statement}

@@ -1,0 +1,4 @@
+pub mod TableRowLaws
+pub mod MarkLaws
+pub mod TestsPassed
+pub mod PointsHold

@@ -1,0 +1,85 @@
+-- `map::density::row_of` meets its contract.
+use mathlib.Core.Path.{_≡_, sym, _∙_}
+use mathlib.Core.Bool.{false}
+use borrow.Author.Needs.{needs}
+use Rattle.map.specs.TableRow.{belowDensity, tableRow}
+use Rattle.map.proofs.density.row_of.Statement.{statement}
+use Rattle.map.proofs.density.row_of.Tie as tie
+
+-- each test that failed
+past-1 : (c : tie.Else1) → belowDensity (c .before .before .args .people) (c .before .before .args .area) 5 ≡ false
+past-1 c = sym (c .before .below-density .ensures) ∙ c .if1 .left
+
+past-2 : (c : tie.Else2)
+    → belowDensity (c .before .before .before .before .args .people) (c .before .before .before .before .args .area) 50 ≡ false
+past-2 c = sym (c .before .below-density2 .ensures) ∙ c .if2 .left
+
+past-3 : (c : tie.Else3)
+    → belowDensity (c .before .before .before .before .before .before .args .people) (c .before .before .before .before .before .before .args .area) 500 ≡ false
+past-3 c = sym (c .before .below-density3 .ensures) ∙ c .if3 .left
+
+past-4 : (c : tie.Else4)
+    → belowDensity (c .before .before .before .before .before .before .before .before .args .people) (c .before .before .before .before .before .before .before .before .args .area) 5000 ≡ false
+past-4 c = sym (c .before .below-density4 .ensures) ∙ c .if4 .left
+
+below-density-requires : tie.Need-below-density-requires
+below-density-requires c κs = search needs
+
+returns : tie.Need-returns
+unfolding tableRow
+returns c = simp (sym (c .before .below-density .ensures) ∙ c .if1 .taken)
+
+below-density-requires-2 : tie.Need-below-density-requires-2
+below-density-requires-2 c κs = search needs
+
+returns-2 : tie.Need-returns-2
+unfolding tableRow
+returns-2 c = simp (past-1 (c .before .before), sym (c .before .below-density2 .ensures) ∙ c .if2 .taken)
+
+below-density-requires-3 : tie.Need-below-density-requires-3
+below-density-requires-3 c κs = search needs
+
+returns-3 : tie.Need-returns-3
+unfolding tableRow
+returns-3 c =
+    simp (past-1 (c .before .before .before .before), past-2 (c .before .before), sym (c .before .below-density3 .ensures) ∙ c .if3 .taken)
+
+below-density-requires-4 : tie.Need-below-density-requires-4
+below-density-requires-4 c κs = search needs
+
+returns-4 : tie.Need-returns-4
+unfolding tableRow
+returns-4 c =
+    let at = c .before .before in
+    simp (past-1 (at .before .before .before .before), past-2 (at .before .before), past-3 at, sym (c .before .below-density4 .ensures) ∙ c .if4 .taken)
+
+below-density-requires-5 : tie.Need-below-density-requires-5
+below-density-requires-5 c κs = search needs
+
+returns-5 : tie.Need-returns-5
+unfolding tableRow
+returns-5 c =
+    let at = c .before .before in
+    simp (past-1 (at .before .before .before .before .before .before), past-2 (at .before .before .before .before), past-3 (at .before .before), past-4 at, sym (c .before .below-density5 .ensures) ∙ c .if5 .taken)
+
+returns-6 : tie.Need-returns-6
+unfolding tableRow
+returns-6 c =
+    let at = c .before .before in
+    simp (past-1 (at .before .before .before .before .before .before), past-2 (at .before .before .before .before), past-3 (at .before .before), past-4 at, sym (c .before .below-density5 .ensures) ∙ c .if5 .left)
+
+pub row-of-spec : {M : Type 1} → statement M
+row-of-spec =
+    tie.close
+    (tie.spec
+    below-density-requires
+    returns
+    below-density-requires-2
+    returns-2
+    below-density-requires-3
+    returns-3
+    below-density-requires-4
+    returns-4
+    below-density-requires-5
+    returns-5
+    returns-6)
