@@ -617,9 +617,12 @@ class CaseAnswer(NamedTuple):
     frame: bytes
 
 
-# "A reading that succeeds fills both buffers, also when a later refusal is
-#  printed; under 15 they keep their content": the refusals before it succeeds.
+# "The whole case is tested in the order: 15, reading, sheet, footprint, class,
+#  mitigation". "A reading that succeeds fills both buffers, also when a later
+#  refusal is printed; under 15 they keep their content": so the first of these
+#  leave them alone.
 NOT_READ = (15, 13, 5, 14)
+CASE_REFUSALS = (*NOT_READ, 1, 2, 3, 4, 6, 7, 8, 9, 10, 11, 12)
 
 
 def case(text, lent, frame_buffer):

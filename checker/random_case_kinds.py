@@ -38,7 +38,7 @@ BYTE_FAMILIES = tuple(
 def promised():
     """Every counted kind with its promised minimum, in the table's order."""
     kinds = {"no refusal": 1_000}
-    for number in g.REFUSALS:
+    for number in sorted(g.CASE_REFUSALS):
         kinds[f"refusal {number}"] = 10
     for column in (1, 2, 3, 4, 5):
         kinds[f"printed, column {column}"] = 50

@@ -194,7 +194,9 @@ class CaseTest(unittest.TestCase):
 
     def test_every_refusal_is_printed_or_15(self):
         self.assertEqual([g.printed_length(number) for number in (0, 15)], [g.FRAME_LENGTH, 0])
-        self.assertEqual({g.printed_length(number) for number in set(g.REFUSALS) - {15}}, {g.REFUSAL_LENGTH})
+        self.assertEqual({g.printed_length(number) for number in set(g.CASE_REFUSALS) - {15}}, {g.REFUSAL_LENGTH})
+        self.assertEqual(len(set(g.CASE_REFUSALS)), len(g.CASE_REFUSALS))
+        self.assertLessEqual(set(g.CASE_REFUSALS), set(g.REFUSALS))
 
     def test_program(self):
         for text, printed in ((TEXT, FRAME), (b"", b"0d\n"), (text_with(mass=0), b"02\n")):

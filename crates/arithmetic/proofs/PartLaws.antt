@@ -7,11 +7,11 @@ use native.Mathlib.Nat.{mul-le-mul-right}
 use native.Mathlib.Numerals.{add-one}
 use native.Mathlib.Omega.{arith}
 use lib.ListN.{length, getD, take, drop, set, length-append, length-drop, length-take, length-set, take-append-drop, drop-of-length-le}
-use lib.Seq.{take-take, take-add, take-at, drop-at, drop-drop, drop-cons, set-at, take-all, take-suc, getD-take, getD-drop, length-take-le}
+use lib.Seq.{take-take, take-add, take-at, drop-at, drop-drop, drop-cons, set-at, take-all, getD-take, getD-drop, length-take-le}
 use borrow.Rule.Slice.PartMut.{putMid, midOf}
 use Rattle.arithmetic.specs.Lists.{tabulate, joined, part, stored}
 use Rattle.arithmetic.proofs.TestLaws.{lt-or-le}
-use Rattle.arithmetic.proofs.ListLaws.{length-tabulate, length-joined}
+use Rattle.arithmetic.proofs.ListLaws.{length-joined}
 
 -- the part of s from place a, k elements long, is x
 pub record PartIs (s : List ℕ) (a k : ℕ) (x : List ℕ) : Type 0 where

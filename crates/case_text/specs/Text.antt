@@ -12,7 +12,7 @@ use Rattle.case_text.specs.Layout.{line1, markLines, countLines, caseBlo
 use Rattle.case_text.specs.declared.CaseHead.{CaseHead}
 use Rattle.case_text.specs.declared.Reading.{Reading}
 
--- line 1 from the numbers in its fields
+-- line 1 from the numbers in its fields, in their order
 abbrev pub headOfValues : List ℕ → CaseHead
 headOfValues vs =
     record {

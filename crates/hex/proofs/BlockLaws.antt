@@ -1,15 +1,15 @@
 -- Laws of blocks: what was written is accepted and read, and what is read of accepted lines is what stands there.
 use mathlib.Core.Path.{_≡_, refl, ap}
-use mathlib.Core.Bool.{true, _&&_}
-use mathlib.Core.List.{List, [], _∷_, _++_}
+use mathlib.Core.Bool.{true}
+use mathlib.Core.List.{List, [], _∷_}
 use Prim.Native.Nat.{ℕ, suc, _+_, _-_, _*_, _<_, _≤_}
 use native.Mathlib.Numerals.{add-one}
 use native.Mathlib.Omega.{arith}
 use lib.Dec.{leb}
-use lib.ListN.{length, take, drop, length-append, length-take, length-drop}
+use lib.ListN.{length, length-append}
 use lib.Seq.{drop-cons}
 use borrow.Author.Tests.{leb-true, le-leb}
-use Rattle.arithmetic.specs.Lists.{joined, every, part}
+use Rattle.arithmetic.specs.Lists.{every, part}
 use Rattle.arithmetic.proofs.TestLaws.{both}
 use Rattle.arithmetic.proofs.ListLaws.{length-joined, every-at, every-all}
 use Rattle.arithmetic.proofs.PartLaws.{PartIs, whole-part, part-whole, parts-joined, part-left, part-right, part-at, joined-is, joined-part, within, part-ends}

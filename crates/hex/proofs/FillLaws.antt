@@ -40,12 +40,12 @@ module _ (block : Block) (s : List ℕ) (a : ℕ) (old : List ℕ) where
 -- one field a line: the number of line k was stored
 
 module _ (n w : ℕ) (s : List ℕ) (a : ℕ) (old : List ℕ) where
-  abbrev column : Block
-  column = record { lines = n; widths = w ∷ [] }
+  abbrev oneField : Block
+  oneField = record { lines = n; widths = w ∷ [] }
 
-  pub field-next : (k x : ℕ) (b : List ℕ) → k < length old → FilledLines column s a k old b → x ≡ field s (lineStart column a k) w → FilledLines column s a (k + 1) old (set b k x)
+  pub field-next : (k x : ℕ) (b : List ℕ) → k < length old → FilledLines oneField s a k old b → x ≡ field s (lineStart oneField a k) w → FilledLines oneField s a (k + 1) old (set b k x)
   unfolding valuesAt joined
   field-next k x b h f e =
       let one : 1 * k ≡ k = omega arith in
       let next : 1 * (k + 1) ≡ k + 1 = omega arith in
-      rw (next, e, add-one k) (rw (add-one k) at (store-next (field s (lineStart column a k) w) h (rw one at f)))
+      rw (next, e, add-one k) (rw (add-one k) at (store-next (field s (lineStart oneField a k) w) h (rw one at f)))

@@ -6,17 +6,17 @@ ghost use lib.Dec.{leb};
 ghost use lib.ListN.{length};
 ghost use Rattle.hex.specs.Blocks.{eachIsLine, areLines};
 
-// Whether n parts of so many bytes from a place on lie within a length. By a quotient: the product may not fit.
-fn lie_within(length: usize, start: usize, each: usize, n: usize) -> bool
-    ensures { λ r. ⌜ r ≡ leb (start + each * n) length ⌝ }
+// Whether n parts of so many bytes each, from a place on, lie within so many bytes. By a quotient: the product may not fit.
+fn lie_within(bytes: usize, start: usize, each: usize, n: usize) -> bool
+    ensures { λ r. ⌜ r ≡ leb (start + each * n) bytes ⌝ }
 {
-    if length < start {
+    if bytes < start {
         return false;
     }
     if each == 0 {
         return true;
     }
-    n <= (length - start) / each
+    n <= (bytes - start) / each
 }
 
 // Whether each of n parts of so many bytes from a place on is a line. No early exit.

@@ -3,7 +3,7 @@ use mathlib.Core.Path.{_≡_}
 use mathlib.Core.List.{List}
 use Prim.Native.Nat.{ℕ}
 use native.Mathlib.Omega.{arith}
-use Rattle.case_text.specs.Text.{MapBuffers, marksOf, countsOf, mapBuffersOf}
+use Rattle.case_text.specs.Text.{marksOf, countsOf, mapBuffersOf}
 use Rattle.case_text.proofs.ReadingLaws.{Accepted, reading-refused, none-accepted, reading-accepted}
 use borrow.Author.Needs.{needs}
 use Rattle.case_text.proofs.read_case.Statement.{statement}

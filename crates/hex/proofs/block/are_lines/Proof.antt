@@ -1,5 +1,5 @@
 -- `hex::block::are_lines` meets its contract.
-use mathlib.Core.Path.{_≡_, sym, _∙_}
+use mathlib.Core.Path.{sym, _∙_}
 use borrow.Author.Needs.{needs}
 use borrow.Author.Tests.{leb-true}
 use Rattle.hex.specs.Blocks.{areLines}

@@ -1,7 +1,7 @@
 -- `hex::block::each_is_line` meets its contract.
 use borrow.Author.Needs.{needs}
 use native.Mathlib.Omega.{arith}
-use Prim.Native.Nat.{ℕ, _≤_, _<_, _-_, _+_, _*_}
+use Prim.Native.Nat.{ℕ, _≤_, _-_, _+_, _*_}
 use mathlib.Core.Path.{_≡_, refl, sym, ap₂, _∙_}
 use mathlib.Core.Bool.{Bool, _&&_}
 use lib.ListN.{length}
@@ -14,33 +14,31 @@ use Rattle.hex.specs.Blocks.{eachIsLine}
 use Rattle.hex.proofs.block.each_is_line.Statement.{statement}
 use Rattle.hex.proofs.block.each_is_line.Tie as tie
 
-inside : (k n w : ℕ) → k < n → w * k + w ≤ w * n
-inside k n w l = omega (arith, part-ends k n w (w * n) l (omega arith))
-
 abbrev Inv-loop : tie.InvT-loop
 Inv-loop s start each n good₀ k₀ good k = (k ≤ n) × (good ≡ eachIsLine s start each k)
 
 abbrev μ-loop : tie.MeasureT-loop
 μ-loop s start each n good₀ k₀ good k = n - k
 
+-- the line that is tested ends within the text
+line-ends : (c : tie.In-loop Inv-loop μ-loop)
+    → let args = c .before .before .before .args in args .start + args .each * c .before .loop .k + args .each ≤ length (now (args .s))
+line-ends c =
+    let args = c .before .before .before .args in
+    omega (arith, part-ends (c .before .loop .k) (args .n) (args .each) (args .each * args .n) (omega arith) (omega arith))
+
 loop-holds : tie.Need-loop-holds Inv-loop μ-loop
 unfolding eachIsLine every
 loop-holds c = (search needs, refl)
 
 mul-at : tie.Need-mul-at Inv-loop μ-loop
-mul-at c =
-    let start = c .before .before .before in
-    omega (arith, inside (c .before .loop .k) (start .args .n) (start .args .each) (omega arith))
+mul-at c = omega (arith, line-ends c)
 
 add-at : tie.Need-add-at Inv-loop μ-loop
-add-at c =
-    let start = c .before .before .before in
-    omega (arith, inside (c .before .loop .k) (start .args .n) (start .args .each) (omega arith))
+add-at c = omega (arith, line-ends c)
 
 add-is-line : tie.Need-add-is-line Inv-loop μ-loop
-add-is-line c =
-    let start = c .before .before .before in
-    omega (arith, inside (c .before .loop .k) (start .args .n) (start .args .each) (omega arith))
+add-is-line c = omega (arith, line-ends c)
 
 sub-is-line : tie.Need-sub-is-line Inv-loop μ-loop
 sub-is-line c = search needs
@@ -49,9 +47,7 @@ part-is-line-start : tie.Need-part-is-line-start Inv-loop μ-loop
 part-is-line-start c = search needs
 
 part-is-line-end : tie.Need-part-is-line-end Inv-loop μ-loop
-part-is-line-end c =
-    let start = c .before .before .before in
-    omega (arith, inside (c .before .loop .k) (start .args .n) (start .args .each) (omega arith))
+part-is-line-end c = omega (arith, line-ends c)
 
 is-line-requires : tie.Need-is-line-requires Inv-loop μ-loop
 is-line-requires c κs = search needs
@@ -66,10 +62,9 @@ loop-again : tie.Need-loop-again Inv-loop μ-loop
 unfolding eachIsLine
 loop-again c =
     let at-loop = c .before .before .before in
-    let s = now (at-loop .before .before .args .s) in
-    let a = at-loop .before .before .args .start in
-    let each = at-loop .before .before .args .each in
-    (omega arith, ap₂ (λ (x y : Bool). x && y) (at-loop .loop .inv .1) (c .is-line .ensures) ∙ sym (every-one (λ k. isLine (part s (a + each * k) (a + each * k + each))) (at-loop .loop .k)))
+    let args = at-loop .before .before .args in
+    let is-line-at : ℕ → Bool = λ k. isLine (part (now (args .s)) (args .start + args .each * k) (args .start + args .each * k + args .each)) in
+    (omega arith, ap₂ (λ (x y : Bool). x && y) (at-loop .loop .inv .1) (c .is-line .ensures) ∙ sym (every-one is-line-at (at-loop .loop .k)))
 
 returns : tie.Need-returns Inv-loop μ-loop
 returns c = let past : c .before .loop .k ≡ c .before .before .before .args .n = omega arith in rw past at (c .before .loop .inv .1)
