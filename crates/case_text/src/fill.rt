@@ -1,7 +1,6 @@
 // The fields of a tested text. Each byte gives some digit, so that nothing here depends on the test.
 use crate::CaseHead;
 use crate::layout::CELL_AREA;
-use crate::layout::COLUMNS;
 use crate::layout::CONTROLLED;
 use crate::layout::COUNT_DIGITS;
 use crate::layout::COUNT_LINE;
@@ -11,13 +10,14 @@ use crate::layout::HEAD_DIGITS;
 use crate::layout::MARK_LINE;
 use crate::layout::MARKS;
 use crate::layout::MASS;
-use crate::layout::ROWS;
 use crate::layout::SPEED;
 use crate::layout::WORD;
 use hex::number_of_four;
 use hex::number_of_two;
 use hex::number_of_words;
 use hex::word;
+use map::MAP_COLUMNS;
+use map::MAP_ROWS;
 ghost use mathlib.Core.Path.{_≡_};
 ghost use Prim.Native.Nat.{_+_, _*_, _≤_};
 ghost use lib.ListN.{length, getD};
@@ -31,7 +31,7 @@ ghost use Rattle.case_text.specs.Text.{headOf, marksOf, countsOf};
 // The digits of a word, and the words of a line of counts.
 const WORD_DIGITS: usize = 4;
 
-const WORDS: usize = 2 * COLUMNS;
+const WORDS: usize = 2 * MAP_COLUMNS;
 
 // The four bytes from a place on as one number.
 fn word_at(s: &[u8], at: usize) -> u32
@@ -76,7 +76,7 @@ pub(crate) fn fill_marks(text: &[u8], marks: &mut [u64])
     ensures { λ _. ⌜ now (marks .exit) ≡ marksOf (now (text .entry)) ⌝ }
 {
     let mut k = 0;
-    while k < ROWS {
+    while k < MAP_ROWS {
         marks[k] = mark_at(text, MARKS + MARK_LINE * k);
         k += 1;
     }
@@ -100,7 +100,7 @@ fn fill_words(words: &[u32], row: &mut [u32])
     ensures { λ _. ⌜ now (row .exit) ≡ tabulate (λ k. numberOfWords (getD (now (words .entry)) (2 * k) 0) (getD (now (words .entry)) (2 * k + 1) 0)) mapColumns ⌝ }
 {
     let mut k = 0;
-    while k < COLUMNS {
+    while k < MAP_COLUMNS {
         row[k] = number_of_words(words[2 * k], words[2 * k + 1]);
         k += 1;
     }
@@ -121,10 +121,13 @@ pub(crate) fn fill_counts(text: &[u8], counts: &mut [u32])
     ensures { λ _. ⌜ now (counts .exit) ≡ countsOf (now (text .entry)) ⌝ }
 {
     let mut r = 0;
-    while r < ROWS {
+    while r < MAP_ROWS {
         let at = COUNTS + COUNT_LINE * r;
-        let to = COLUMNS * r;
-        fill_row(&text[at..at + COUNT_DIGITS], &mut counts[to..to + COLUMNS]);
+        let to = MAP_COLUMNS * r;
+        fill_row(
+            &text[at..at + COUNT_DIGITS],
+            &mut counts[to..to + MAP_COLUMNS],
+        );
         r += 1;
     }
 }

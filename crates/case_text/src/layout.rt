@@ -1,38 +1,46 @@
 // The layout of a case text: the width of each field in digits, the lines, and where each field and each block starts.
+use map::MAP_COLUMNS;
+use map::MAP_ROWS;
 
-// Rows and columns of the map, and its cells.
-pub(crate) const ROWS: usize = map::MAP_ROWS;
+// Line 1: the digits of each field.
+const DIMENSION_WIDTH: usize = 8;
 
-pub(crate) const COLUMNS: usize = map::MAP_COLUMNS;
+const MASS_WIDTH: usize = 8;
 
-pub(crate) const CELLS: usize = map::MAP_CELLS;
+const SPEED_WIDTH: usize = 8;
 
-// Line 1: its fields, its digits, and with its line end.
+const CELL_AREA_WIDTH: usize = 8;
+
+const CONTROLLED_WIDTH: usize = 2;
+
+const WORD_WIDTH: usize = 4;
+
+// Where each field starts, the digits of the line, and how long it is with its line end.
 pub(crate) const DIMENSION: usize = 0;
 
-pub(crate) const MASS: usize = DIMENSION + 8;
+pub(crate) const MASS: usize = DIMENSION + DIMENSION_WIDTH;
 
-pub(crate) const SPEED: usize = MASS + 8;
+pub(crate) const SPEED: usize = MASS + MASS_WIDTH;
 
-pub(crate) const CELL_AREA: usize = SPEED + 8;
+pub(crate) const CELL_AREA: usize = SPEED + SPEED_WIDTH;
 
-pub(crate) const CONTROLLED: usize = CELL_AREA + 8;
+pub(crate) const CONTROLLED: usize = CELL_AREA + CELL_AREA_WIDTH;
 
-pub(crate) const WORD: usize = CONTROLLED + 2;
+pub(crate) const WORD: usize = CONTROLLED + CONTROLLED_WIDTH;
 
-pub(crate) const HEAD_DIGITS: usize = WORD + 4;
+pub(crate) const HEAD_DIGITS: usize = WORD + WORD_WIDTH;
 
 pub(crate) const HEAD_LINE: usize = HEAD_DIGITS + 1;
 
 // A line of the footprint: its digits, and with its line end.
-pub(crate) const MARK_DIGITS: usize = 16;
+const MARK_WIDTH: usize = 16;
 
-pub(crate) const MARK_LINE: usize = MARK_DIGITS + 1;
+pub(crate) const MARK_LINE: usize = MARK_WIDTH + 1;
 
 // A line of counts: the digits of a count, of the line, and with its line end.
-pub(crate) const COUNT_WIDTH: usize = 8;
+const COUNT_WIDTH: usize = 8;
 
-pub(crate) const COUNT_DIGITS: usize = COUNT_WIDTH * COLUMNS;
+pub(crate) const COUNT_DIGITS: usize = COUNT_WIDTH * MAP_COLUMNS;
 
 pub(crate) const COUNT_LINE: usize = COUNT_DIGITS + 1;
 
@@ -41,6 +49,6 @@ pub(crate) const HEAD: usize = 0;
 
 pub(crate) const MARKS: usize = HEAD + HEAD_LINE;
 
-pub(crate) const COUNTS: usize = MARKS + MARK_LINE * ROWS;
+pub(crate) const COUNTS: usize = MARKS + MARK_LINE * MAP_ROWS;
 
-pub(crate) const TEXT: usize = COUNTS + COUNT_LINE * ROWS;
+pub(crate) const TEXT: usize = COUNTS + COUNT_LINE * MAP_ROWS;

@@ -13,9 +13,9 @@ ghost use Rattle.case_text.specs.Text.{noHead, ReadingContract};
 // How long a text is, and how many counts and footprint rows it has.
 pub const TEXT_LENGTH: usize = layout::TEXT;
 
-pub const COUNTS_LENGTH: usize = layout::CELLS;
+pub const COUNTS_LENGTH: usize = map::MAP_CELLS;
 
-pub const MARKS_LENGTH: usize = layout::ROWS;
+pub const MARKS_LENGTH: usize = map::MAP_ROWS;
 
 // Line 1 of a case text.
 #[repr(C)]

@@ -1,14 +1,14 @@
 // The tests of a case text, before anything is stored. No early exit from the bytes: the loops are vectorised.
-use crate::layout::CELLS;
 use crate::layout::COUNT_LINE;
 use crate::layout::COUNTS;
 use crate::layout::HEAD;
 use crate::layout::HEAD_LINE;
 use crate::layout::MARK_LINE;
 use crate::layout::MARKS;
-use crate::layout::ROWS;
 use crate::layout::TEXT;
 use hex::are_lines;
+use map::MAP_CELLS;
+use map::MAP_ROWS;
 ghost use mathlib.Core.Path.{_≡_};
 ghost use Rattle.case_text.specs.Text.{isText, readingRefusal};
 
@@ -16,8 +16,8 @@ fn is_text(text: &[u8]) -> bool
     ensures { λ r. ⌜ r ≡ isText (now (text .entry)) ⌝ }
 {
     are_lines(text, HEAD, HEAD_LINE, 1)
-        & are_lines(text, MARKS, MARK_LINE, ROWS)
-        & are_lines(text, COUNTS, COUNT_LINE, ROWS)
+        & are_lines(text, MARKS, MARK_LINE, MAP_ROWS)
+        & are_lines(text, COUNTS, COUNT_LINE, MAP_ROWS)
 }
 
 // The refusals in their order.
@@ -27,7 +27,7 @@ pub(crate) fn reading_refusal(text: &[u8], counts: &[u32], marks: &[u64]) -> u8
         ⌝ }
 {
     let wrong_length = text.len() != TEXT;
-    let wrong_buffers = (counts.len() != CELLS) | (marks.len() != ROWS);
+    let wrong_buffers = (counts.len() != MAP_CELLS) | (marks.len() != MAP_ROWS);
     if wrong_length {
         return 13;
     }

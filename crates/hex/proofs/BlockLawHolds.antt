@@ -1,4 +1,4 @@
--- Laws of blocks: what was written is accepted and read, and what is read of accepted lines is what stands there.
+-- The block law of specs/BlockLaw: what was written is accepted and read, and what is read of accepted lines is what stands there.
 use mathlib.Core.Path.{_≡_, refl, ap}
 use mathlib.Core.Bool.{true}
 use mathlib.Core.List.{List, [], _∷_}
