@@ -21,7 +21,7 @@ pub struct Assessment {
 }
 
 // A refused assessment: every other number is zero.
-pub fn refused_with(refusal: u8) -> Assessment
+fn refused_with(refusal: u8) -> Assessment
     ensures { λ r. ⌜ r ≡ refusedAssessment refusal ⌝ }
 {
     let sheet = Sheet::refused();
