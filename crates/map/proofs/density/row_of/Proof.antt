@@ -6,20 +6,30 @@ use Rattle.map.specs.TableRow.{belowDensity, tableRow}
 use Rattle.map.proofs.density.row_of.Statement.{statement}
 use Rattle.map.proofs.density.row_of.Tie as tie
 
+-- the start from after each test
+abbrev start1 : tie.After-below-density → tie.Start
+start1 c = c .before
+
+abbrev start2 : tie.After-below-density2 → tie.Start
+start2 c = start1 (c .before .before)
+
+abbrev start3 : tie.After-below-density3 → tie.Start
+start3 c = start2 (c .before .before)
+
+abbrev start4 : tie.After-below-density4 → tie.Start
+start4 c = start3 (c .before .before)
+
 -- each test that failed
-past-1 : (c : tie.Else1) → belowDensity (c .before .before .args .people) (c .before .before .args .area) 5 ≡ false
+past-1 : (c : tie.Else1) → belowDensity (start1 (c .before) .args .people) (start1 (c .before) .args .area) 5 ≡ false
 past-1 c = sym (c .before .below-density .ensures) ∙ c .if1 .left
 
-past-2 : (c : tie.Else2)
-    → belowDensity (c .before .before .before .before .args .people) (c .before .before .before .before .args .area) 50 ≡ false
+past-2 : (c : tie.Else2) → belowDensity (start2 (c .before) .args .people) (start2 (c .before) .args .area) 50 ≡ false
 past-2 c = sym (c .before .below-density2 .ensures) ∙ c .if2 .left
 
-past-3 : (c : tie.Else3)
-    → belowDensity (c .before .before .before .before .before .before .args .people) (c .before .before .before .before .before .before .args .area) 500 ≡ false
+past-3 : (c : tie.Else3) → belowDensity (start3 (c .before) .args .people) (start3 (c .before) .args .area) 500 ≡ false
 past-3 c = sym (c .before .below-density3 .ensures) ∙ c .if3 .left
 
-past-4 : (c : tie.Else4)
-    → belowDensity (c .before .before .before .before .before .before .before .before .args .people) (c .before .before .before .before .before .before .before .before .args .area) 5000 ≡ false
+past-4 : (c : tie.Else4) → belowDensity (start4 (c .before) .args .people) (start4 (c .before) .args .area) 5000 ≡ false
 past-4 c = sym (c .before .below-density4 .ensures) ∙ c .if4 .left
 
 below-density-requires : tie.Need-below-density-requires
