@@ -1,3 +1,4 @@
 pub mod Between
 pub mod FractionInBracket
 pub mod AccuracyHolds
+pub mod PointsHold

@@ -1,2 +1,4 @@
 pub mod ExactArea
+pub mod PointClaims
+pub mod Points
 pub mod Accuracy
