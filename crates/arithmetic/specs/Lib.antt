@@ -4,5 +4,6 @@ pub mod Fraction
 pub mod SumsAndMaxima
 pub mod Lists
 pub mod Each
-pub mod BitwiseOr
 pub mod Refusals
+pub mod PrivateBitwiseOr
+pub mod PrivateFirstMaximum

@@ -10,9 +10,9 @@ use lib.Signed.{_≤ℤ_}
 use Rattle.footprint.specs.declared.Footprint.{Footprint}
 use Rattle.risk_class.specs.ClassTable.{intrinsicClassOf}
 use Rattle.risk_class.specs.Mitigation.{finalClassOf}
-use Rattle.risk_class.specs.Promises.{LowerInTable}
+use Rattle.risk_class.specs.Lower.{LowerInTable}
 use Rattle.risk_class.proofs.PromisesHold.{read}
-use Rattle.risk_class.proofs.Lower.{intrinsic-lower, working-lower}
+use Rattle.risk_class.proofs.LowerHolds.{intrinsic-lower, working-lower}
 use Rattle.assessment.specs.Working.{given, notGiven, Working, endedBefore, endedAfter, wholeWorking, afterClass, afterFootprint, workingOn}
 use Rattle.assessment.specs.Demand3.{SameOrLower}
 

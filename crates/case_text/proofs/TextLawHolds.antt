@@ -7,7 +7,7 @@ use native.Mathlib.Omega.{arith}
 use lib.ListN.{length, getD}
 use Rattle.arithmetic.specs.Lists.{joined}
 use Rattle.hex.specs.Blocks.{Block, valuesAt, BlocksFit}
-use Rattle.hex.proofs.BlockLaws.{block-law}
+use Rattle.hex.proofs.BlockLawHolds.{block-law}
 use Rattle.hex.proofs.UniformLaws.{uniform-fits, uniform-long, uniform-below, line-fits, line-fit}
 use Rattle.case_text.specs.Layout.{line1, caseBlocks, markWidth, countWidth, mapRows, mapColumns, textLength}
 use Rattle.case_text.specs.Text.{MapBuffers, headOfValues, headOf, isText, readingRefusal, ReadingContract}

@@ -1,4 +1,4 @@
--- The frame law of specs/FrameLaw, and the lines of specs/WorkedLines.
+-- The frame law of specs/FrameLaw.antt holds.
 use mathlib.Core.Path.{_≡_, refl, ap, sym, _∙_}
 use mathlib.Core.Bool.{Bool, true, false, cond}
 use mathlib.Core.List.{List, _++_, append-assoc}
@@ -17,7 +17,6 @@ use Rattle.hex.proofs.FieldLaws.{length-written, fields-read, fields-are}
 use Rattle.frame.specs.Layout.{refusalWidth, classWidth, frameDigits, frameLength, finalStart}
 use Rattle.frame.specs.Frame.{classByte, frameFields, frameLine, refusalFields, refusalLine, printed, withLine, framed}
 use Rattle.frame.specs.FrameLaw.{classOf, refusalIn, fieldsIn, ClassFits, FrameFits, Shows, FrameLaw}
-use Rattle.frame.specs.WorkedLines.{WorkedLines}
 use Rattle.frame.specs.declared.FrameFields.{FrameFields}
 
 -- the class byte
@@ -121,7 +120,3 @@ frame-law =
       rest-kept = rest-kept;
       length-kept = length-kept;
     }
-
-pub worked-lines : WorkedLines
-unfolding frameLine refusalLine digits
-worked-lines = record { p16 = refl; refusal-10 = refl; minus-one = refl }

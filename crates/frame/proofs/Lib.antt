@@ -1,2 +1,3 @@
 pub mod FrameLawHolds
+pub mod WorkedLinesHold
 pub mod WaysOut

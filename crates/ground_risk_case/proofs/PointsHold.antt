@@ -42,7 +42,7 @@ use Rattle.frame.specs.declared.FrameFields.{FrameFields}
 use Rattle.frame.specs.Layout.{frameLength}
 use Rattle.frame.specs.Frame.{printed, withLine}
 use Rattle.frame.specs.WorkedLines.{p16Fields, p16Line}
-use Rattle.frame.proofs.FrameLawHolds.{worked-lines}
+use Rattle.frame.proofs.WorkedLinesHold.{worked-lines}
 use Rattle.ground_risk_case.specs.Case.{printedFields, questionOf, questionIn, CaseBuffers, caseRefusal, caseAnswer, buffersLeft}
 use Rattle.ground_risk_case.specs.Points.{p16Head, P16Text, onlyFirst, p16Case, LongEnough, P16Holds, aircraft, cell, mitigation, wholeCase, WorkedPointHolds, WorkedPointsHold}
 

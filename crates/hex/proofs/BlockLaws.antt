@@ -1,4 +1,4 @@
--- Laws of blocks: what was written is accepted and read, and what is read of accepted lines is what stands there.
+-- Laws of one block: what was written is accepted and read, and what is read of accepted lines is what stands there.
 use mathlib.Core.Path.{_≡_, refl, ap}
 use mathlib.Core.Bool.{true}
 use mathlib.Core.List.{List, [], _∷_}
@@ -14,8 +14,7 @@ use Rattle.arithmetic.proofs.TestLaws.{both}
 use Rattle.arithmetic.proofs.ListLaws.{length-joined, every-at, every-all}
 use Rattle.arithmetic.proofs.PartLaws.{PartIs, whole-part, part-whole, parts-joined, part-left, part-right, part-at, joined-is, joined-part, within, part-ends}
 use Rattle.hex.specs.Digits.{field, written, Fit, lineEnd, isLine}
-use Rattle.hex.specs.Blocks.{Block, sum, lineDigits, lineLength, blockLength, lineStart, eachIsLine, areLines, isBlock, fieldsAt, valuesAt, withValues, lineFields, lineText, blockText, BlockFits, blocksLength, areBlocks, blocksAt, blocksText, blocksOf, BlocksFit}
-use Rattle.hex.specs.BlockLaw.{BlockLaw}
+use Rattle.hex.specs.Blocks.{Block, sum, lineDigits, lineLength, blockLength, lineStart, eachIsLine, areLines, isBlock, fieldsAt, valuesAt, withValues, lineFields, lineText, blockText, BlockFits}
 use Rattle.hex.proofs.DigitLaws.{number-below}
 use Rattle.hex.proofs.LineLaws.{line-of, line-at}
 use Rattle.hex.proofs.FieldLaws.{width, Read, length-written, digits-written, fields-read, fields-are}
@@ -83,7 +82,7 @@ module _ (b : Block) where
   unfolding lineText
   line-accepted vs k = line-of (written (lineFields b vs k)) (digits-written (lineFields b vs k))
 
-  block-long : (vs : List ℕ) → length (blockText b vs) ≡ blockLength b
+  pub block-long : (vs : List ℕ) → length (blockText b vs) ≡ blockLength b
   unfolding blockText
   block-long vs = length-joined (lineText b vs) (lineLength b) (line-long vs) (b .lines)
 
@@ -94,7 +93,7 @@ module _ (b : Block) where
       line-stands k l = joined-part (lineText b vs) (lineLength b) s a (line-long vs) (b .lines) p k l
 
       -- what was written is accepted, and read
-      block-accepted : isBlock b s a ≡ true
+      pub block-accepted : isBlock b s a ≡ true
       unfolding areLines eachIsLine
       block-accepted =
           rw (le-leb _ _ inside)
@@ -103,7 +102,7 @@ module _ (b : Block) where
           let long : lineStart b a k + lineLength b - lineStart b a k ≡ lineLength b = omega arith in
           rw (long, line-stands k l .is) (line-accepted vs k)))
 
-      block-read : BlockFits b vs → valuesAt b s a ≡ vs
+      pub block-read : BlockFits b vs → valuesAt b s a ≡ vs
       unfolding valuesAt lineText
       block-read fits =
           part-whole vs _ (m * b .lines) (fits .long)
@@ -129,7 +128,7 @@ module _ (b : Block) where
     line-read k l = values-read (b .widths) (valuesAt b s a) s (m * k) (lineStart b a k) (line-part k l)
 
     -- what is read of an accepted block is what stands there
-    block-back : isBlock b s a ≡ true → PartIs s a (blockLength b) (blockText b (valuesAt b s a))
+    pub block-back : isBlock b s a ≡ true → PartIs s a (blockLength b) (blockText b (valuesAt b s a))
     unfolding blockText lineText areLines eachIsLine
     block-back accepted =
         let tests = both (leb (a + blockLength b) (length s)) (every (λ (k : ℕ). isLine (part s (lineStart b a k) (lineStart b a k + lineLength b))) (b .lines)) accepted in
@@ -145,49 +144,5 @@ module _ (b : Block) where
         (rw same at (fields-are fs s (lineStart b a k) (rw same (omega arith)) (rw same (line .digits)) (line-read k l))) (line .end))
 
     -- what is read of any bytes fits
-    block-fits : BlockFits b (valuesAt b s a)
+    pub block-fits : BlockFits b (valuesAt b s a)
     block-fits = record { long = values-long; fit = λ k l. read-fit (lineFields b (valuesAt b s a) k) s (lineStart b a k) (line-read k l) }
-
--- blocks, one after the other
-
-blocks-long : (ps : List (Block × List ℕ)) → length (blocksText ps) ≡ blocksLength (blocksOf ps)
-blocks-long [] = refl
-blocks-long (p ∷ ps) = simp (length-append, block-long (p .0) (p .1), blocks-long ps)
-
--- the first block's text, and that of the others, where the text of all stands
-module _ (p : Block × List ℕ) (ps : List (Block × List ℕ)) (s : List ℕ) (a : ℕ) (h : PartIs s a (blocksLength (blocksOf (p ∷ ps))) (blocksText (p ∷ ps))) where
-  first-stands : PartIs s a (blockLength (p .0)) (blockText (p .0) (p .1))
-  first-stands = part-left s a (blockLength (p .0)) (blocksLength (blocksOf ps)) (blockText (p .0) (p .1)) (blocksText ps) h (block-long (p .0) (p .1))
-
-  others-stand : PartIs s (a + blockLength (p .0)) (blocksLength (blocksOf ps)) (blocksText ps)
-  others-stand = part-right s a (blockLength (p .0)) (blocksLength (blocksOf ps)) (blockText (p .0) (p .1)) (blocksText ps) h (block-long (p .0) (p .1))
-
-blocks-accepted : (ps : List (Block × List ℕ)) (s : List ℕ) (a : ℕ) → a + blocksLength (blocksOf ps) ≤ length s → PartIs s a (blocksLength (blocksOf ps)) (blocksText ps) → areBlocks (blocksOf ps) s a ≡ true
-blocks-accepted [] s a inside h = refl
-blocks-accepted (p ∷ ps) s a inside h =
-    rw (block-accepted (p .0) s a (p .1) (omega arith) (first-stands p ps s a h), blocks-accepted ps s (a + blockLength (p .0)) (omega arith) (others-stand p ps s a h))
-
-blocks-read : (ps : List (Block × List ℕ)) (s : List ℕ) (a : ℕ) → a + blocksLength (blocksOf ps) ≤ length s → BlocksFit ps → PartIs s a (blocksLength (blocksOf ps)) (blocksText ps) → blocksAt (blocksOf ps) s a ≡ ps
-blocks-read [] s a inside f h = refl
-blocks-read (p ∷ ps) s a inside f h =
-    rw (block-read (p .0) s a (p .1) (omega arith) (first-stands p ps s a h) (f .0), blocks-read ps s (a + blockLength (p .0)) (omega arith) (f .1) (others-stand p ps s a h))
-
-blocks-back : (bs : List Block) (s : List ℕ) (a : ℕ) → areBlocks bs s a ≡ true → PartIs s a (blocksLength bs) (blocksText (blocksAt bs s a))
-blocks-back [] s a accepted = record { is = refl; long = refl }
-blocks-back (b ∷ bs) s a accepted =
-    let tests = both (isBlock b s a) (areBlocks bs s (a + blockLength b)) accepted in
-    parts-joined s a (blockLength b) (blocksLength bs) _ _ (block-back b s a (tests .0)) (blocks-back bs s (a + blockLength b) (tests .1))
-
-blocks-fit : (bs : List Block) (s : List ℕ) (a : ℕ) → BlocksFit (blocksAt bs s a)
-blocks-fit [] s a = tt
-blocks-fit (b ∷ bs) s a = (block-fits b s a, blocks-fit bs s (a + blockLength b))
-
-pub block-law : BlockLaw
-block-law =
-    record {
-      text-long = blocks-long;
-      text-accepted = λ ps. blocks-accepted ps (blocksText ps) 0 (omega (arith, blocks-long ps)) (whole-part (blocksText ps) _ (blocks-long ps));
-      values-read = λ ps fit. blocks-read ps (blocksText ps) 0 (omega (arith, blocks-long ps)) fit (whole-part (blocksText ps) _ (blocks-long ps));
-      text-back = λ bs s long accepted. part-whole s _ (blocksLength bs) long (blocks-back bs s 0 accepted);
-      values-fit = λ bs s. blocks-fit bs s 0;
-    }

@@ -13,7 +13,6 @@ use borrow.Author.Tests.{lt-ltb, le-ltb, le-leb, lt-leb, leb-true}
 use Rattle.arithmetic.specs.Lists.{part}
 use Rattle.arithmetic.proofs.TestLaws.{lt-or-le, both}
 use Rattle.hex.specs.Digits.{isDigit, digitValue, digitOf, number, digits, field}
-use Rattle.hex.specs.DigitLaw.{DigitLaw}
 
 pub digit-below : (b : ℕ) → digitValue b < 16
 digit-below b = omega arith
@@ -147,14 +146,3 @@ number-back s (suc k) p h =
     let front : (number k s * 16 + digitValue (getD s k 0)) / 16 ≡ number k s = omega arith in
     let last : (number k s * 16 + digitValue (getD s k 0)) % 16 ≡ digitValue (getD s k 0) = omega arith in
     rw (front, last, value-back (getD s k 0) (p k (omega arith)), number-back s k (λ i l. p i (omega arith)) (omega arith)) (sym (take-suc s k 0 h))
-
-pub digit-law : DigitLaw
-digit-law =
-    record {
-      digit-back = digit-back;
-      digit-is = digit-is;
-      value-back = value-back;
-      read-written = read-written;
-      number-back = number-back;
-      number-below = number-below;
-    }

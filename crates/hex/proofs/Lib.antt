@@ -1,7 +1,9 @@
 pub mod DigitLaws
+pub mod DigitLawHolds
 pub mod WordLaws
 pub mod LineLaws
 pub mod FieldLaws
 pub mod BlockLaws
+pub mod BlockLawHolds
 pub mod UniformLaws
 pub mod FillLaws

@@ -3,4 +3,4 @@ pub mod TableLaws
 pub mod ClassLaws
 pub mod MitigationLaws
 pub mod PromisesHold
-pub mod Lower
+pub mod LowerHolds

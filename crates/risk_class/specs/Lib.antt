@@ -1,4 +1,5 @@
 pub mod ClassTable
 pub mod Mitigation
 pub mod Promises
+pub mod Lower
 pub mod Points

@@ -1,4 +1,4 @@
--- A lower column, a lower row or controlled ground loses no class and raises none.
+-- The laws of specs/Lower.antt hold.
 use mathlib.Core.Path.{_≡_, refl, _∙_}
 use mathlib.Core.Logic.{⊎-elim}
 use mathlib.Core.Bool.{Bool, true, false, cond}
@@ -12,7 +12,7 @@ use lib.Signed.{ltZ, leZ, _≤ℤ_}
 use Rattle.arithmetic.proofs.TestLaws.{lt-or-le, not-outside}
 use Rattle.risk_class.specs.ClassTable.{noClass, classAt, usedRow, outsideTable, intrinsicClassOf}
 use Rattle.risk_class.specs.Mitigation.{creditOf, afterM1, finalClass, finalClassOf}
-use Rattle.risk_class.specs.Promises.{LowerInTable, LowerEntry, IntrinsicLower, FinalLower, WorkingLower}
+use Rattle.risk_class.specs.Lower.{LowerInTable, LowerEntry, IntrinsicLower, FinalLower, WorkingLower}
 use Rattle.risk_class.proofs.TableLaws.{floor-in, table-lower}
 use Rattle.risk_class.proofs.ClassLaws.{used-in}
 use Rattle.risk_class.proofs.MitigationLaws.{entry-test}

@@ -1,0 +1,9 @@
+-- The printed lines of specs/WorkedLines.antt are those that document 01 shows.
+use mathlib.Core.Path.{refl}
+use Rattle.hex.specs.Digits.{digits}
+use Rattle.frame.specs.Frame.{frameLine, refusalLine}
+use Rattle.frame.specs.WorkedLines.{WorkedLines}
+
+pub worked-lines : WorkedLines
+unfolding frameLine refusalLine digits
+worked-lines = record { p16 = refl; refusal-10 = refl; minus-one = refl }
