@@ -143,10 +143,10 @@ def definitions_of(crate, file, text, unread):
             definition = Definition(crate, file, name, item, head.endswith("Type 0"), tuple(constructors))
             for clause in clauses_of(definition):
                 if not definition.words & set(TOKEN.findall(clause)):
-                    unread.append(f"{definition}: {clause}")
+                    unread.append(f"{definition} goes on with what couldn't be read: {clause}")
             found.append(definition)
         elif item and not NO_DEFINITION.match(item):
-            unread.append(f"crates/{crate}/specs/{file}.antt: {item}")
+            unread.append(f"crates/{crate}/specs/{file}.antt: {item.splitlines()[0]} couldn't be read")
     return found
 
 
@@ -230,13 +230,13 @@ PASSED_ON = re.compile(r"^pub use (?:crate::)?((?:\w+::)*)(\w+);$", re.M)
 
 def closed(text, start):
     """The place after the bracket that closes the one at a place."""
-    pairs = {"(": ")", "{": "}"}
+    opening, closing = text[start], {"(": ")", "{": "}"}[text[start]]
     depth = 0
     for place in range(start, len(text)):
-        depth += (text[place] == pairs[text[start]] and -1) or (text[place] == text[start])
+        depth += (text[place] == opening) - (text[place] == closing)
         if depth == 0:
             return place + 1
-    raise ValueError(text[start:start + 60])
+    raise ValueError(f"nothing closes {text[start:start + 60]}")
 
 
 class Function(NamedTuple):
@@ -268,18 +268,22 @@ def functions_of(where, text, unread):
 
 
 def passed_on_from(crate, sources, unread):
-    """The (module, name) that a crate's lib passes on. No other module can be named from outside."""
+    """The (module, name) that a crate's lib passes on, its own or another crate's. No module but lib can be named from outside."""
     text = sources.get("lib", "")
     found = {(path.strip(":").replace("::", "/"), name) for path, name in PASSED_ON.findall(text)}
-    if len(found) != len(re.findall(r"\bpub (?:use|mod)\b", text)) or re.search(r"\bpub use (?:self|super)\b", text):
+    if len(found) != len(re.findall(r"\bpub (?:use|mod)\b", text)):
         unread.append(f"crates/{crate}/src/lib.rt: a name or a module is passed on in a way that couldn't be read")
+    here = {module.split("/")[0] for module in sources} | {"self", "super"}
+    for module, name in found:
+        if module.split("/")[0] in here and not re.search(rf"^pub (?!use )[^(]*\b{name}\b", sources.get(module, ""), re.M):
+            unread.append(f"crates/{crate}/src/lib.rt: {name} is passed on from {module}, where it couldn't be found")
     return found
 
 
 def contracts_of(crate, sources, definitions, unread):
     """A statement for each function of a crate, whose files are given by their names in src/."""
     passed_on = passed_on_from(crate, sources, unread)
-    types = {name for text in sources.values() for name in re.findall(r"^pub struct (\w+)", text, re.M) if "lib" in sources}
+    types = {name for text in sources.values() for name in re.findall(r"^pub (?:struct|enum) (\w+)", text, re.M) if "lib" in sources}
     for module, text in sources.items():
         where = f"crates/{crate}/src/{module}.rt"
         unread += [f"{where}: {path} is imported" for path, _ in from_proofs(text)]
@@ -304,6 +308,11 @@ def concluded_in(statement):
     return statement[last:]
 
 
+def up_to_where(lines):
+    before = list(takewhile(lambda l: not l.endswith(" where"), lines))
+    return " ".join(lines[:len(before) + 1])
+
+
 def public_names_of(text):
     """The public names of a file of proofs/, each with its type and the hypotheses of the modules around it."""
     lines = text.split("\n")
@@ -314,8 +323,8 @@ def public_names_of(text):
         named = re.match(r" *(?:abbrev |unfoldable )?pub (\S+) : ", line + " ")
         further = list(takewhile(lambda l: len(l) - len(l.lstrip()) > indent, lines[i + 1:]))
         if re.match(r" *(?:pub )?(?:module|record) ", line):
-            around.append((indent, line))
-        elif named and not any("record " in outer[1] for outer in around):
+            around.append((indent, up_to_where(lines[i:])))
+        elif named and not any(re.match(" *(?:pub )?record ", outer[1]) for outer in around):
             yield named[1], " ".join([line[named.end() - 1:], *further]), " ".join(outer[1] for outer in around)
 
 

@@ -181,7 +181,7 @@ class Faults(unittest.TestCase):
     def test_theorem_has_private_hypothesis(self):
         self.assert_wrong(
             ["half is for private functions, and must be believed: the theorem answer-law"],
-            ("crates/high/proofs/AnswerHolds.antt", "answerOf n ≡ 0", "half n ≡ 0"),
+            ("crates/high/proofs/AnswerHolds.antt", "answerOf n ≡ 0", "\n    half n ≡ 0"),
             ("crates/high/proofs/AnswerHolds.antt", "use Rattle·high·s", "use Rattle.low.specs.PrivateSteps.{half}\nuse Rattle·high·s"))
 
     # what needn't be believed stands elsewhere
@@ -270,6 +270,9 @@ class Faults(unittest.TestCase):
                 ("crates/low/src/steps.rt", "fn twice(", "const fn twice("),
                 ("crates/low/src/lib.rt", "pub use steps::twice;", "pub use steps::{twice};"),
                 ("crates/low/src/lib.rt", "mod steps;", "pub mod steps;"),
+                ("crates/low/src/lib.rt", "steps::twice", "steps::more::twice"),
+                ("crates/low/src/lib.rt", "steps::twice", "steps::thrice"),
+                ("crates/low/src/steps.rt", "    n\n", "}\ntrait Made {\n    n\n"),
                 ("crates/high/src/lib.rt", "impl Answer {", "impl Made for Answer {")):
             with self.subTest(path=path, new=new):
                 self.assertTrue(any(path in line or "contract of" in line for line in self.wrong((path, old, new))))
