@@ -2,7 +2,7 @@
 
 No program runs that definition, so no comparison of outputs reaches it. The
 points are its test: the prover works each one out and must find what stands
-here. checker/expectations writes them to crates/exact_area/specs/Points.antt.
+here. checker/expectations writes them to crates/exact_area/specs/PointTable.antt.
 """
 
 import ground_risk as g
@@ -29,7 +29,7 @@ HEAD = """\
 -- The worked points, in lowest terms. checker/expectations writes this file, from document 01; it is never edited by hand.
 use mathlib.Core.List.{List, [], _∷_}
 use Rattle.arithmetic.specs.Fraction.{_over_}
-use Rattle.exact_area.specs.PointClaims.{ExactPoint, point}
+use Rattle.exact_area.specs.ExactPoint.{ExactPoint, point}
 
 -- dimension, mass, speed; the exact area and the exact column; the sheet's column and flag
 abbrev pub exactPoints : List ExactPoint
@@ -59,7 +59,7 @@ def point(w, m, v):
 
 
 def table():
-    """The bytes of crates/exact_area/specs/Points.antt."""
+    """The bytes of crates/exact_area/specs/PointTable.antt."""
     lines = []
     before = "    "
     for why, aircraft in groups():

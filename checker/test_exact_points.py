@@ -15,7 +15,7 @@ import ground_risk as g
 from test_demand_3 import quick_exact_area
 
 HERE = Path(__file__).resolve().parent
-STORED = "crates/exact_area/specs/Points.antt"
+STORED = "crates/exact_area/specs/PointTable.antt"
 ROW = re.compile(r"    (?:∷ )?point (\d+) (\d+) (\d+) \((\d+) over (\d+)\) (\d+) (\d+) (\d+)")
 
 

@@ -7,7 +7,8 @@ use native.Mathlib.Nat.{le-refl, le-suc, le-trans}
 use native.Mathlib.Numerals.{add-one}
 use native.Mathlib.Omega.{arith}
 use lib.Dec.{ltb}
-use Rattle.arithmetic.specs.SumsAndMaxima.{maxBelow, firstMaxBelow, firstBest}
+use Rattle.arithmetic.specs.SumsAndMaxima.{maxBelow, firstBest}
+use Rattle.arithmetic.specs.PrivateFirstMaximum.{firstMaxBelow}
 use Rattle.arithmetic.proofs.TestLaws.{lt-or-le, cond-le}
 use Rattle.arithmetic.proofs.SumLaws.{first-lt, first-at, le-max}
 

@@ -7,7 +7,7 @@ use native.Mathlib.Numerals.{add-one}
 use native.Mathlib.Omega.{arith}
 use lib.Bits.{bitOr, or-add-and, and-le-l, and-le-r, or-lt}
 use lib.Pow.{pow-pos}
-use Rattle.arithmetic.specs.BitwiseOr.{orBelow}
+use Rattle.arithmetic.specs.PrivateBitwiseOr.{orBelow}
 use Rattle.arithmetic.proofs.TestLaws.{lt-or-le}
 
 left-le : (a b : ℕ) → a ≤ bitOr a b

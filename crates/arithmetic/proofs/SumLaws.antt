@@ -10,7 +10,8 @@ use borrow.Author.Tests.{lt-ltb, le-ltb}
 use lib.Dec.{ltb}
 use lib.Arith.{lt-one}
 use lib.Count.{ones, ones-step}
-use Rattle.arithmetic.specs.SumsAndMaxima.{sumBelow, maxBelow, firstMaxBelow}
+use Rattle.arithmetic.specs.SumsAndMaxima.{sumBelow, maxBelow}
+use Rattle.arithmetic.specs.PrivateFirstMaximum.{firstMaxBelow}
 use Rattle.arithmetic.proofs.TestLaws.{lt-or-le, cond-le}
 
 -- a choice by a test whose outcome is known

@@ -8,7 +8,7 @@ use native.Mathlib.Numerals.{add-one}
 use native.Mathlib.Omega.{arith}
 use borrow.Author.Tests.{le-ltb, ltb-true, ltb-false, eqb-true}
 use lib.Dec.{ltb, eqb}
-use Rattle.arithmetic.specs.Tests.{outside, anyBelow}
+use Rattle.arithmetic.specs.Conditions.{outside, anyBelow}
 
 pub lt-or-le : (a b : ℕ) → (a < b) ⊎ (b ≤ a)
 lt-or-le a b = by-test (ltb a b) refl

@@ -1,8 +1,9 @@
-pub mod Tests
+pub mod Conditions
 pub mod Rounding
 pub mod Fraction
 pub mod SumsAndMaxima
 pub mod Lists
 pub mod Each
-pub mod BitwiseOr
 pub mod Refusals
+pub mod PrivateBitwiseOr
+pub mod PrivateFirstMaximum

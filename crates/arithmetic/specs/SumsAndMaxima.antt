@@ -1,7 +1,6 @@
--- The sum, the maximum and the first maximum of f over the indices 0, 1, .., n - 1.
+-- The sum and the maximum of f over the indices 0, 1, .., n - 1, and the first index that no other beats.
 use mathlib.Core.Bool.{Bool, cond}
 use Prim.Native.Nat.{ℕ, zero, suc, _+_, max}
-use lib.Dec.{ltb}
 
 -- f 0 + f 1 + .. + f (n - 1)
 unfoldable pub sumBelow : (ℕ → ℕ) → ℕ → ℕ
@@ -12,11 +11,6 @@ sumBelow f (suc n) = sumBelow f n + f n
 unfoldable pub maxBelow : (ℕ → ℕ) → ℕ → ℕ
 maxBelow f zero = 0
 maxBelow f (suc n) = max (maxBelow f n) (f n)
-
--- the first index below n at which f is largest, and 0 where f is 0 throughout
-unfoldable pub firstMaxBelow : (ℕ → ℕ) → ℕ → ℕ
-firstMaxBelow f zero = 0
-firstMaxBelow f (suc n) = cond (ltb (maxBelow f n) (f n)) n (firstMaxBelow f n)
 
 -- the first index below n that no other beats, where `beats q p` says that q beats p, and 0 where none beats another
 unfoldable pub firstBest : (ℕ → ℕ → Bool) → ℕ → ℕ

@@ -9,8 +9,8 @@ use Rattle.columns.specs.Column.{columnBy, columnOf, flagOf}
 use Rattle.sheet.specs.Lines.{runOf, savingOf, totalOf, formulaOf, areaOf}
 use Rattle.sheet.specs.Sheet.{withLines, linesOf, sheetOf}
 use Rattle.exact_area.specs.ExactArea.{exactGlide, speedTerm, massTerm, friction, exactSlide, halfWidth, wholeArea, exactBy, exactArea, exactColumn}
-use Rattle.exact_area.specs.PointClaims.{AreaPointHolds, ColumnPointHolds, onSheet, FlagPointHolds}
-use Rattle.exact_area.specs.Points.{exactPoints}
+use Rattle.exact_area.specs.Points.{AreaPointHolds, ColumnPointHolds, onSheet, FlagPointHolds}
+use Rattle.exact_area.specs.PointTable.{exactPoints}
 
 pub area-points-hold : Each AreaPointHolds exactPoints
 unfolding exactArea exactBy wholeArea halfWidth exactSlide friction massTerm speedTerm exactGlide formulaOf plus minus times divided

@@ -1,4 +1,5 @@
 pub mod ExactArea
-pub mod PointClaims
+pub mod ExactPoint
+pub mod PointTable
 pub mod Points
 pub mod Accuracy

@@ -8,7 +8,8 @@ use native.Mathlib.Omega.{arith}
 use borrow.Author.Tests.{lt-ltb, eqb-false}
 use lib.Count.{ones}
 use lib.ListN.{getD}
-use Rattle.arithmetic.specs.SumsAndMaxima.{sumBelow, maxBelow, firstMaxBelow}
+use Rattle.arithmetic.specs.SumsAndMaxima.{sumBelow, maxBelow}
+use Rattle.arithmetic.specs.PrivateFirstMaximum.{firstMaxBelow}
 use Rattle.arithmetic.proofs.RefusalLaws.{answer-promise}
 use Rattle.arithmetic.proofs.SumLaws.{sum-same, sum-le, sum-mono, max-mono, le-max, first-lt, first-at, first-before, sum-rows}
 use Rattle.map.specs.Size.{mapCells, mapRows, mapColumns}

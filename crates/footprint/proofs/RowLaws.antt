@@ -15,7 +15,7 @@ use Rattle.arithmetic.proofs.TestLaws.{lt-or-le, neither, cond-le}
 use Rattle.arithmetic.proofs.SumLaws.{sum-next, max-next, sum-le, max-le, max-same, max-map, sum-columns, max-columns}
 use Rattle.map.specs.Size.{mapColumns}
 use Rattle.map.specs.Map.{largestCount, countAt, bitAt}
-use Rattle.footprint.specs.PrivateWalk.{rowKey, markedCount, aboveLimit, withCell, laneOf, rowSum, keyAbove, rowWalk}
+use Rattle.footprint.specs.PrivateWalk.{rowKey, markedCount, aboveLimit, withCell, rowSum, keyAbove, rowWalk}
 use Rattle.footprint.specs.declared.row.Lane.{Lane}
 use Rattle.footprint.specs.declared.row.RowSum.{RowSum}
 use Rattle.map.proofs.MarkLaws.{ones-of-row}
@@ -38,6 +38,13 @@ module _ (limit : ℕ) where
   above-lt x = let le : aboveLimit limit x ≤ 1 = cond-le (ltb limit x) (omega arith) (omega arith) in omega arith
 
 -- ---- a map row's lanes
+
+-- the first n cells of a map row's columns j, 4 + j, 8 + j, ..
+abbrev pub laneOf : List ℕ → ℕ → ℕ → ℕ → ℕ → Lane
+laneOf counts bits limit j n = record {
+  people = sumBelow (λ i. markedCount counts bits (4 * i + j)) n;
+  above = maxBelow (λ i. aboveLimit limit (markedCount counts bits (4 * i + j))) n;
+}
 
 module _ (counts : List ℕ) (bits limit : ℕ) where
   -- one step more

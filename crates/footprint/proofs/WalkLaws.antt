@@ -10,7 +10,8 @@ use borrow.Author.Tests.{ltb-false, lt-ltb, le-ltb, ne-eqb}
 use lib.Dec.{ltb, eqb}
 use lib.ListN.{length, getD}
 use Rattle.arithmetic.specs.Lists.{part}
-use Rattle.arithmetic.specs.SumsAndMaxima.{sumBelow, maxBelow, firstMaxBelow, firstBest}
+use Rattle.arithmetic.specs.SumsAndMaxima.{sumBelow, maxBelow, firstBest}
+use Rattle.arithmetic.specs.PrivateFirstMaximum.{firstMaxBelow}
 use Rattle.arithmetic.proofs.TestLaws.{any-none, inside, lt-or-le, cond-le}
 use Rattle.arithmetic.proofs.PartLaws.{slice-length, slice-at}
 use Rattle.arithmetic.proofs.SumLaws.{sum-same, max-same, first-same, max-map, sum-add, sum-le, max-le, first-lt, first-at, max-rows, first-rows, rowMax, firstInRow, le-max}

@@ -47,13 +47,6 @@ aboveLimit limit n = cond (ltb limit n) 1 0
 abbrev pub withCell : Lane → ℕ → ℕ → Lane
 withCell lane limit n = record { people = lane .people + n; above = max (lane .above) (aboveLimit limit n) }
 
--- the first n cells of a map row's columns j, 4 + j, 8 + j, ..
-abbrev pub laneOf : List ℕ → ℕ → ℕ → ℕ → ℕ → Lane
-laneOf counts bits limit j n = record {
-  people = sumBelow (λ i. markedCount counts bits (4 * i + j)) n;
-  above = maxBelow (λ i. aboveLimit limit (markedCount counts bits (4 * i + j))) n;
-}
-
 -- a map row's people, and whether a marked count is above a limit
 abbrev pub rowSum : List ℕ → ℕ → ℕ → RowSum
 rowSum counts bits limit = record {

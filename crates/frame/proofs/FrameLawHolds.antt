@@ -1,4 +1,4 @@
--- The frame law of specs/FrameLaw.
+-- The frame law of specs/FrameLaw.antt holds.
 use mathlib.Core.Path.{_≡_, refl, ap, sym, _∙_}
 use mathlib.Core.Bool.{Bool, true, false, cond}
 use mathlib.Core.List.{List, _++_, append-assoc}

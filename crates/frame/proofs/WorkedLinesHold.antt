@@ -1,4 +1,4 @@
--- The lines of specs/WorkedLines.
+-- The printed lines of specs/WorkedLines.antt are those that document 01 shows.
 use mathlib.Core.Path.{refl}
 use Rattle.hex.specs.Digits.{digits}
 use Rattle.frame.specs.Frame.{frameLine, refusalLine}

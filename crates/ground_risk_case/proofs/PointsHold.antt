@@ -10,7 +10,7 @@ use lib.Dec.{eqb, lit≤}
 use lib.ListN.{length, getD, List·getD-eq-default}
 use Rattle.arithmetic.specs.Each.{Each}
 use Rattle.arithmetic.specs.Rounding.{divUp}
-use Rattle.arithmetic.specs.Tests.{anyBelow}
+use Rattle.arithmetic.specs.Conditions.{anyBelow}
 use Rattle.arithmetic.specs.Lists.{stored}
 use Rattle.arithmetic.proofs.EachLaws.{each-append, each-map}
 use Rattle.arithmetic.proofs.ListLaws.{length-tabulate, tabulate-at}

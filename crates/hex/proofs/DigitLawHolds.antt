@@ -1,4 +1,4 @@
--- The digit law of specs/DigitLaw.
+-- The digit law of specs/DigitLaw.antt holds.
 use Rattle.hex.specs.DigitLaw.{DigitLaw}
 use Rattle.hex.proofs.DigitLaws.{digit-back, digit-is, value-back, read-written, number-back, number-below}
 

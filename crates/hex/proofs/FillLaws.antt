@@ -10,7 +10,7 @@ use Rattle.arithmetic.specs.Lists.{joined, part}
 use Rattle.arithmetic.proofs.PartLaws.{Filled, store-next, filled-all, row-none, row-next}
 use Rattle.hex.specs.Digits.{field}
 use Rattle.hex.specs.Blocks.{Block, lineDigits, lineStart, fieldsAt, valuesAt}
-use Rattle.hex.proofs.BlockLawHolds.{length-fields, fields-part}
+use Rattle.hex.proofs.BlockLaws.{length-fields, fields-part}
 
 -- the first k lines of a block
 abbrev pub firstLines : Block → ℕ → Block

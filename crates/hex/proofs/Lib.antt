@@ -3,6 +3,7 @@ pub mod DigitLawHolds
 pub mod WordLaws
 pub mod LineLaws
 pub mod FieldLaws
+pub mod BlockLaws
 pub mod BlockLawHolds
 pub mod UniformLaws
 pub mod FillLaws

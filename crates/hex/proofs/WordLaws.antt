@@ -10,7 +10,8 @@ use lib.Seq.{getD-drop}
 use Rattle.arithmetic.specs.Lists.{part}
 use Rattle.arithmetic.proofs.PartLaws.{slice-at}
 use Rattle.hex.specs.Digits.{digitValue, number, field}
-use Rattle.hex.specs.Words.{lanes, wordAt, bytesOf, numberOfWord, numberOfWords, valuesOf, pairsOf}
+use Rattle.hex.specs.Words.{lanes, wordAt, bytesOf, numberOfWords}
+use Rattle.hex.specs.PrivateWords.{numberOfWord, valuesOf, pairsOf}
 use Rattle.hex.proofs.DigitLaws.{digit-below, number-split, field-number}
 
 -- four numbers, each below n

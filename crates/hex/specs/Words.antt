@@ -1,7 +1,6 @@
 -- Four bytes as one number of 32 bits, so that four digits are read at once.
-use Prim.Native.Nat.{ℕ, _+_, _-_, _*_, _/_, _%_}
+use Prim.Native.Nat.{ℕ, _+_, _*_, _/_, _%_}
 use mathlib.Core.List.{List, [], _∷_, _++_}
-use lib.Bits.{bitAnd}
 use lib.ListN.{getD}
 use Rattle.hex.specs.Digits.{number}
 
@@ -17,18 +16,6 @@ wordAt s a = lanes (getD s a 0) (getD s (a + 1) 0) (getD s (a + 2) 0) (getD s (a
 abbrev pub bytesOf : ℕ → List ℕ
 bytesOf x = x % 256 ∷ x / 256 % 256 ∷ x / 65536 % 256 ∷ x / 16777216 % 256 ∷ []
 
--- the number that the four digits in a word stand for
-abbrev pub numberOfWord : ℕ → ℕ
-numberOfWord x = number 4 (bytesOf x)
-
 -- the number that the eight digits in two words stand for
 unfoldable pub numberOfWords : ℕ → ℕ → ℕ
 numberOfWords x y = number 8 (bytesOf x ++ bytesOf y)
-
--- The steps of the reading, for private functions: the value of the digit in each byte, then two digits joined in each
--- second byte.
-abbrev pub valuesOf : ℕ → ℕ
-valuesOf x = bitAnd (x - 7 * bitAnd (x / 64) 16843009) 252645135
-
-abbrev pub pairsOf : ℕ → ℕ
-pairsOf v = bitAnd (v * 16 + v / 256) 16711935

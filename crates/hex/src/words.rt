@@ -2,7 +2,8 @@
 ghost use mathlib.Core.Path.{_≡_};
 ghost use Prim.Native.Nat.{_≤_, _<_};
 ghost use lib.ListN.{getD};
-ghost use Rattle.hex.specs.Words.{wordAt, numberOfWord, numberOfWords, valuesOf, pairsOf};
+ghost use Rattle.hex.specs.Words.{wordAt, numberOfWords};
+ghost use Rattle.hex.specs.PrivateWords.{numberOfWord, valuesOf, pairsOf};
 
 // 15 and 1 in each byte, 255 in each second byte.
 const FIFTEENS: u32 = 0x0f0f0f0f;

@@ -9,7 +9,7 @@ use borrow.Author.Tests.{eq-eqb, ne-eqb}
 use lib.Count.{ones, ones-step}
 use lib.Dec.{eqb}
 use lib.ListN.{getD}
-use Rattle.arithmetic.specs.BitwiseOr.{orBelow}
+use Rattle.arithmetic.specs.PrivateBitwiseOr.{orBelow}
 use Rattle.arithmetic.specs.SumsAndMaxima.{sumBelow}
 use Rattle.arithmetic.proofs.OrLaws.{le-or, or-below}
 use Rattle.arithmetic.proofs.SumLaws.{sum-same, sum-le, sum-rows, ones-sum}

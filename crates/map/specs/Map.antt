@@ -4,7 +4,7 @@ use mathlib.Core.List.{List}
 use Prim.Native.Nat.{ℕ, _-_, _/_, _%_, _^_}
 use lib.Dec.{eqb}
 use lib.ListN.{getD}
-use Rattle.arithmetic.specs.Tests.{outside}
+use Rattle.arithmetic.specs.Conditions.{outside}
 use Rattle.arithmetic.specs.SumsAndMaxima.{sumBelow}
 use Rattle.map.specs.Size.{mapColumns, mapCells}
 

@@ -2,8 +2,8 @@
 use mathlib.Core.Bool.{Bool}
 use mathlib.Core.List.{List}
 use Prim.Native.Nat.{ℕ, _+_}
-use Rattle.arithmetic.specs.Tests.{anyBelow}
-use Rattle.arithmetic.specs.BitwiseOr.{orBelow}
+use Rattle.arithmetic.specs.Conditions.{anyBelow}
+use Rattle.arithmetic.specs.PrivateBitwiseOr.{orBelow}
 use Rattle.map.specs.Size.{mapColumns}
 use Rattle.map.specs.Map.{countAt}
 use Rattle.map.specs.Refusals.{aboveRange}

@@ -4,7 +4,7 @@ use mathlib.Core.List.{List, [], _∷_}
 use Prim.Native.Nat.{ℕ}
 use lib.Dec.{ltb, eqb}
 use lib.ListN.{length}
-use Rattle.arithmetic.specs.Tests.{anyBelow}
+use Rattle.arithmetic.specs.Conditions.{anyBelow}
 use Rattle.arithmetic.specs.Refusals.{Test, _when_}
 use Rattle.map.specs.Size.{mapRows, mapCells}
 use Rattle.map.specs.Map.{largestCount, wrongArea, Map, countAt, cellsIn}

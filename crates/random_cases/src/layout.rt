@@ -1,6 +1,6 @@
 // The places of a case text, as docs/RANDOM_CASES.md has them. case_text keeps its own to itself; its lengths are public.
 ghost use Prim.Native.Nat.{_<_};
-ghost use Rattle.random_cases.specs.Buffers.{mapRows};
+ghost use Rattle.random_cases.specs.PrivateBuffers.{mapRows};
 
 // Rows, columns and cells of a map.
 pub(crate) const ROWS: u64 = case_text::MARKS_LENGTH as u64;

@@ -29,7 +29,7 @@ use text_kinds::LONGER_FRAMES;
 ghost use mathlib.Core.Path.{_≡_};
 ghost use Prim.Native.Nat.{_≤_};
 ghost use lib.ListN.{length};
-ghost use Rattle.random_cases.specs.Buffers.{textRoom, countsRoom, footprintRoom, frameRoom};
+ghost use Rattle.random_cases.specs.PrivateBuffers.{textRoom, countsRoom, footprintRoom, frameRoom};
 
 const CASES: u32 = 2400;
 

@@ -5,7 +5,7 @@ use crate::parts::RandomCase;
 use crate::random::below;
 use crate::tables::COLUMN_AIRCRAFT;
 ghost use Prim.Native.Nat.{_<_};
-ghost use Rattle.random_cases.specs.Buffers.{mapCells};
+ghost use Rattle.random_cases.specs.PrivateBuffers.{mapCells};
 
 pub(crate) const ALL_ONES: u64 = 18446744073709551615;
 

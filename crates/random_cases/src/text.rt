@@ -24,7 +24,7 @@ use hex::LINE_END;
 use hex::write_digits;
 ghost use mathlib.Core.Path.{_≡_};
 ghost use lib.ListN.{length};
-ghost use Rattle.random_cases.specs.Buffers.{textRoom};
+ghost use Rattle.random_cases.specs.PrivateBuffers.{textRoom};
 
 // A number in the digits from a place up to another; nothing where the text has no such part.
 fn write_number(text: &mut [u8], start: u64, end: u64, value: u64)

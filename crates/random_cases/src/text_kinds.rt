@@ -13,7 +13,7 @@ use crate::random::Draw;
 use crate::random::below;
 use frame::FRAME_LENGTH;
 ghost use Prim.Native.Nat.{_<_};
-ghost use Rattle.random_cases.specs.Buffers.{mapRows};
+ghost use Rattle.random_cases.specs.PrivateBuffers.{mapRows};
 
 const NO_DIGITS: [u64; 14] = [0, 47, 58, 64, 65, 66, 67, 68, 69, 70, 96, 103, 255, 10];
 

@@ -5,7 +5,7 @@ use Prim.Native.Nat.{ℕ, _≤_}
 use native.Mathlib.Omega.{arith}
 use borrow.Author.Tests.{ltb-false}
 use lib.Dec.{ltb, eqb}
-use Rattle.arithmetic.specs.Tests.{outside}
+use Rattle.arithmetic.specs.Conditions.{outside}
 use Rattle.arithmetic.proofs.RefusalLaws as tests
 use Rattle.arithmetic.proofs.RefusalLaws.{FollowsFrom}
 use Rattle.arithmetic.proofs.TestLaws.{neither, inside, cond-le, le-cond}

@@ -1,4 +1,4 @@
--- A lower column, a lower row or controlled ground loses no class and raises none.
+-- The laws of specs/Lower.antt hold.
 use mathlib.Core.Path.{_≡_, refl, _∙_}
 use mathlib.Core.Logic.{⊎-elim}
 use mathlib.Core.Bool.{Bool, true, false, cond}

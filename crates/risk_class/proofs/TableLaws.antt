@@ -5,7 +5,7 @@ use Prim.Native.Nat.{ℕ, suc, _+_, _-_, _≤_}
 use native.Mathlib.Omega.{arith}
 use borrow.Author.Tests.{le-ltb, ne-eqb, ltb-true, leb-true, eqb-true}
 use lib.Dec.{ltb, leb, eqb}
-use Rattle.arithmetic.specs.Tests.{anyBelow}
+use Rattle.arithmetic.specs.Conditions.{anyBelow}
 use Rattle.arithmetic.proofs.TestLaws.{both, allBelow, all-below, any-some}
 use Rattle.risk_class.specs.ClassTable.{classAt, noClass}
 use Rattle.risk_class.specs.Mitigation.{notOffered, creditAt, isEntry}

@@ -4,7 +4,7 @@ use mathlib.Core.List.{List, [], _∷_}
 use Prim.Native.Nat.{ℕ, _-_}
 use lib.Dec.{ltb, eqb}
 use lib.ListN.{getD}
-use Rattle.arithmetic.specs.Tests.{outside}
+use Rattle.arithmetic.specs.Conditions.{outside}
 use Rattle.arithmetic.specs.Refusals.{Test, _when_, answered}
 use Rattle.risk_class.specs.declared.class_table.IntrinsicClass.{IntrinsicClass}
 

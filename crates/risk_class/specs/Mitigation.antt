@@ -6,7 +6,7 @@ use lib.Dec.{ltb, eqb}
 use lib.IntN.{ℤ, pos, subℕ}
 use lib.ListN.{getD}
 use lib.Signed.{ltZ}
-use Rattle.arithmetic.specs.Tests.{anyBelow}
+use Rattle.arithmetic.specs.Conditions.{anyBelow}
 use Rattle.arithmetic.specs.Refusals.{Test, _when_, answered}
 use Rattle.risk_class.specs.ClassTable.{rows, classAt, wrongColumn}
 use Rattle.risk_class.specs.declared.mitigation.FinalClass.{FinalClass}

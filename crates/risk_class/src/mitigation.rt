@@ -6,7 +6,7 @@ ghost use mathlib.Core.Path.{_≡_};
 ghost use Prim.Native.Nat.{_+_, _-_, _<_, _≤_, max};
 ghost use lib.Dec.{eqb};
 ghost use lib.IntN.{subℕ};
-ghost use Rattle.arithmetic.specs.Tests.{anyBelow};
+ghost use Rattle.arithmetic.specs.Conditions.{anyBelow};
 ghost use Rattle.risk_class.specs.ClassTable.{rows, classAt};
 ghost use Rattle.risk_class.specs.Mitigation.{creditAt, isEntry, refusedFinal, finalClassOf};
 

@@ -9,7 +9,7 @@ use Rattle.arithmetic.proofs.RoundingLaws.{scaled-up}
 use Rattle.columns.specs.Bracket.{bracket, roundedOutward}
 use Rattle.columns.specs.declared.Bracket.{Bracket}
 use Rattle.sheet.specs.Lines.{Formula, whole, sixTenths, glideOnly, totalAt, totalOf, glideOnlyAt, areaOf}
-use Rattle.sheet.specs.AreaTenths.{tenths, withSlide, areaRule}
+use Rattle.sheet.specs.PrivateAreaTenths.{tenths, withSlide, areaRule}
 use Rattle.sheet.specs.declared.lines.AreaRule.{AreaRule}
 
 tenths-max : (f : Formula) → tenths f ≤ 10

@@ -4,7 +4,7 @@ use native.Mathlib.Nat.{mul-le-mul, add-le-add}
 use native.Mathlib.Omega.{arith}
 use Rattle.arithmetic.specs.Rounding.{divUp}
 use Rattle.sheet.specs.Ranges.{dimensionMax, speedMax}
-use Rattle.sheet.specs.Bounds.{aMax, glideMax, slideMax, totalMax, AtMost}
+use Rattle.sheet.specs.PrivateBounds.{aMax, glideMax, slideMax, totalMax, AtMost}
 use Rattle.sheet.specs.Lines.{fullWidth, glideOf, runOf, savingOf, slideOf, totalAt, totalOf}
 
 run-max : (v : ℕ) → v ≤ speedMax → AtMost (runOf v) slideMax

@@ -10,7 +10,7 @@ use Rattle.columns.specs.Column.{lastLimit, columnAndFlagOf}
 use Rattle.columns.specs.declared.Bracket.{Bracket}
 use Rattle.columns.specs.declared.ColumnAndFlag.{ColumnAndFlag}
 use Rattle.sheet.specs.Ranges.{dimensionMax, speedMax, InRange}
-use Rattle.sheet.specs.Bounds.{glideMax, slideMax, totalMax, AtMost}
+use Rattle.sheet.specs.PrivateBounds.{glideMax, slideMax, totalMax, AtMost}
 use Rattle.sheet.specs.Lines.{fullWidth, glideOf, runOf, savingOf, slideOf, totalOf, formulaOf, areaOf}
 use Rattle.sheet.specs.declared.Sheet.{Sheet}
 use Rattle.sheet.specs.Sheet.{withLines, linesOf, refusedSheet, acceptedSheet, rangeTests, areaTests, sheetOf}

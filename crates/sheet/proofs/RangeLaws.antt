@@ -4,7 +4,7 @@ use mathlib.Core.Bool.{false}
 use Prim.Native.Nat.{ℕ}
 use borrow.Author.Tests.{ltb-false, le-ltb}
 use lib.Dec.{ltb}
-use Rattle.arithmetic.specs.Tests.{outside}
+use Rattle.arithmetic.specs.Conditions.{outside}
 use Rattle.arithmetic.specs.Refusals.{firstRefusal}
 use Rattle.arithmetic.proofs.RefusalLaws.{first-exactly-when, use-of}
 use Rattle.arithmetic.proofs.TestLaws.{inside, not-outside}

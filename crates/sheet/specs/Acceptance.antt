@@ -3,7 +3,7 @@ use mathlib.Core.Path.{_≡_}
 use mathlib.Core.Bool.{true, false}
 use mathlib.Core.Logic.{_↔_}
 use Prim.Native.Nat.{ℕ, _≤_, _<_}
-use Rattle.arithmetic.specs.Tests.{outside}
+use Rattle.arithmetic.specs.Conditions.{outside}
 use Rattle.arithmetic.specs.Refusals.{AnswerPromise}
 use Rattle.columns.specs.Column.{lastLimit}
 use Rattle.sheet.specs.Ranges.{dimensionMin, dimensionMax, massMin, massMax, speedMax, InRange}

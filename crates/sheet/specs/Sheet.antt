@@ -2,7 +2,7 @@
 use mathlib.Core.List.{List, [], _∷_, _++_}
 use Prim.Native.Nat.{ℕ}
 use lib.Dec.{ltb}
-use Rattle.arithmetic.specs.Tests.{outside}
+use Rattle.arithmetic.specs.Conditions.{outside}
 use Rattle.arithmetic.specs.Refusals.{Test, _when_, answered}
 use Rattle.columns.specs.Bracket.{bracket}
 use Rattle.columns.specs.Column.{lastLimit, columnAndFlagOf}

@@ -4,9 +4,9 @@ ghost use mathlib.Core.Bool.{cond};
 ghost use Prim.Native.Nat.{_+_, _^_, _≤_, _<_};
 ghost use Rattle.sheet.specs.Ranges.{dimensionMax, speedMax};
 ghost use Rattle.columns.specs.Bracket.{roundedOutward};
-ghost use Rattle.sheet.specs.Bounds.{aMax, glideMax, slideMax, totalMax, AtMost};
+ghost use Rattle.sheet.specs.PrivateBounds.{aMax, glideMax, slideMax, totalMax, AtMost};
 ghost use Rattle.sheet.specs.Lines.{fullWidth, glideOf, runOf, savingOf, slideOf, totalAt, totalOf, formulaOf, areaOf};
-ghost use Rattle.sheet.specs.AreaTenths.{areaRule};
+ghost use Rattle.sheet.specs.PrivateAreaTenths.{areaRule};
 use arithmetic::difference_or_zero;
 use columns::Bracket;
 

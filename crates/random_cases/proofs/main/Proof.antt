@@ -2,7 +2,7 @@
 use Prim.Native.Nat.{_≤_, _-_}
 use mathlib.Core.Path.{_≡_}
 use lib.ListN.{length}
-use Rattle.random_cases.specs.Buffers.{textRoom, countsRoom, footprintRoom, frameRoom}
+use Rattle.random_cases.specs.PrivateBuffers.{textRoom, countsRoom, footprintRoom, frameRoom}
 use borrow.Author.Needs.{needs}
 use Rattle.random_cases.proofs.main.Statement.{statement}
 use Rattle.random_cases.proofs.main.Tie as tie

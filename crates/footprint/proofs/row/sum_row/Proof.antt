@@ -6,8 +6,9 @@ use lib.ListN.{length}
 use Rattle.arithmetic.specs.SumsAndMaxima.{sumBelow, maxBelow}
 use Rattle.map.specs.Size.{mapColumns}
 use Rattle.map.specs.Map.{largestCount}
-use Rattle.footprint.specs.PrivateWalk.{Masks, markedCount, withCell, laneOf}
+use Rattle.footprint.specs.PrivateWalk.{Masks, markedCount, withCell}
 use Rattle.footprint.specs.declared.row.Lane.{Lane}
+use Rattle.footprint.proofs.RowLaws.{laneOf}
 use Rattle.footprint.proofs.RowLaws as law
 use Rattle.footprint.proofs.row.sum_row.Statement.{statement}
 use Rattle.footprint.proofs.row.sum_row.Tie as tie

@@ -1,7 +1,7 @@
 -- `hex::numbers::number_of_four` meets its contract.
 use mathlib.Core.Path.{ap, _∙_}
 use native.Mathlib.Omega.{arith}
-use Rattle.hex.specs.Words.{numberOfWord}
+use Rattle.hex.specs.PrivateWords.{numberOfWord}
 use Rattle.hex.proofs.WordLaws.{word-number}
 use borrow.Author.Needs.{needs}
 use Rattle.hex.proofs.numbers.number_of_four.Statement.{statement}

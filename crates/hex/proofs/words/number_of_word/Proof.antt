@@ -1,7 +1,7 @@
 -- `hex::words::number_of_word` meets its contract.
 use mathlib.Core.Path.{ap, _∙_}
 use native.Mathlib.Omega.{arith}
-use Rattle.hex.specs.Words.{pairsOf}
+use Rattle.hex.specs.PrivateWords.{pairsOf}
 use Rattle.hex.proofs.WordLaws.{word-steps}
 use borrow.Author.Needs.{needs}
 use Rattle.hex.proofs.words.number_of_word.Statement.{statement}

@@ -3,7 +3,7 @@ use mathlib.Core.Path.{_≡_, refl, sym, ap, _∙_}
 use Prim.Native.Nat.{ℕ, _-_, _≤_}
 use native.Mathlib.Omega.{arith}
 use lib.Bits.{bitOr}
-use Rattle.arithmetic.specs.BitwiseOr.{orBelow}
+use Rattle.arithmetic.specs.PrivateBitwiseOr.{orBelow}
 use Rattle.arithmetic.proofs.OrLaws.{or-next}
 use Rattle.map.specs.Size.{mapColumns}
 use Rattle.map.specs.PrivateCounts.{raised}

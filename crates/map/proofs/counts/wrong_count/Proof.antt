@@ -6,7 +6,7 @@ use Prim.Native.Nat.{ℕ, _+_, _-_, _*_, _≤_}
 use native.Mathlib.Omega.{arith}
 use lib.Dec.{ltb}
 use Rattle.arithmetic.specs.Lists.{part}
-use Rattle.arithmetic.specs.Tests.{anyBelow}
+use Rattle.arithmetic.specs.Conditions.{anyBelow}
 use Rattle.arithmetic.proofs.TestLaws.{any-same, any-add}
 use Rattle.arithmetic.proofs.PartLaws.{slice-length, slice-at}
 use Rattle.map.specs.Size.{mapRows, mapColumns}

@@ -5,7 +5,7 @@ use native.Mathlib.Omega.{arith}
 use lib.Bits.{bitOr}
 use lib.Dec.{eqb}
 use lib.ListN.{getD}
-use Rattle.arithmetic.specs.BitwiseOr.{orBelow}
+use Rattle.arithmetic.specs.PrivateBitwiseOr.{orBelow}
 use Rattle.arithmetic.proofs.OrLaws.{or-next}
 use Rattle.map.specs.Size.{mapRows}
 use Rattle.map.proofs.MarkLaws.{no-mark-is}

@@ -2,7 +2,7 @@
 use Prim.Native.Nat.{_≤_, _-_}
 use mathlib.Core.Path.{_≡_}
 use lib.ListN.{length}
-use Rattle.random_cases.specs.Buffers.{mapCells, textRoom}
+use Rattle.random_cases.specs.PrivateBuffers.{mapCells, textRoom}
 use borrow.Author.Needs.{needs}
 use Rattle.random_cases.proofs.text.write_counts.Statement.{statement}
 use Rattle.random_cases.proofs.text.write_counts.Tie as tie

@@ -4,7 +4,7 @@ use mathlib.Core.Bool.{Bool, _||_}
 use Prim.Native.Nat.{ℕ, _+_, _-_, _≤_}
 use native.Mathlib.Omega.{arith}
 use lib.Dec.{eqb}
-use Rattle.arithmetic.specs.Tests.{anyBelow}
+use Rattle.arithmetic.specs.Conditions.{anyBelow}
 use Rattle.arithmetic.proofs.TestLaws.{any-next}
 use Rattle.risk_class.specs.ClassTable.{classAt}
 use Rattle.risk_class.proofs.mitigation.in_column.Statement.{statement}

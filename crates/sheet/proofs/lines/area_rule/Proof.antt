@@ -1,6 +1,6 @@
 -- `area_rule` gives the tenths of the formula that the dimension takes.
 use mathlib.Core.Path.{sym, ap}
-use Rattle.sheet.specs.AreaTenths.{areaRule}
+use Rattle.sheet.specs.PrivateAreaTenths.{areaRule}
 use Rattle.sheet.proofs.FormulaLaws.{takes-whole, takes-six-tenths, takes-glide-only}
 use Rattle.sheet.proofs.lines.area_rule.Statement.{statement}
 use Rattle.sheet.proofs.lines.area_rule.Tie as tie

@@ -1,4 +1,4 @@
--- How long the buffers of the random cases are: the longest that a case is given.
+-- How long the buffers of the random cases are: the longest that a case is given. Only private functions are stated by it.
 use Prim.Native.Nat.{ℕ, _+_}
 use Rattle.case_text.specs.Layout.{textLength}
 use Rattle.frame.specs.Layout.{frameLength}

@@ -1,4 +1,4 @@
--- Tests of a range, and of some index below n.
+-- Conditions on numbers: out of a range; at some index below n.
 use mathlib.Core.Bool.{Bool, false, _||_}
 use Prim.Native.Nat.{ℕ, zero, suc}
 use lib.Dec.{ltb}

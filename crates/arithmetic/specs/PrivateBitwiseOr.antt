@@ -1,4 +1,4 @@
--- The bitwise or of f over the indices 0, 1, .., n - 1.
+-- The bitwise or of f over the indices 0, 1, .., n - 1. Only private functions are stated by it.
 use Prim.Native.Nat.{ℕ, zero, suc}
 use lib.Bits.{bitOr}
 

@@ -1,4 +1,4 @@
--- How large the lines get within the aircraft's ranges: what the private functions ask of their arguments, so that every product fits 64 bits.
+-- How large the lines get within the aircraft's ranges, so that every product fits 64 bits. Only private functions are stated by it.
 use Prim.Native.Nat.{ℕ, _≤_}
 use Rattle.sheet.specs.Ranges.{dimensionMax}
 use Rattle.sheet.specs.Lines.{fullWidth, glideOf}

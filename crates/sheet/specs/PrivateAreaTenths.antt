@@ -1,4 +1,4 @@
--- How the private functions take line 6: as so many tenths of a total, over 100,000.
+-- How the code takes line 6: as so many tenths of a total, over 100,000. Only private functions are stated by it.
 use mathlib.Core.Bool.{Bool, true, false}
 use Prim.Native.Nat.{ℕ}
 use Rattle.sheet.specs.Lines.{Formula, whole, sixTenths, glideOnly}
