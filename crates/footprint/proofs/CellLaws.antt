@@ -1,16 +1,15 @@
 -- Laws of one cell and of sums and maxima of marked cells: keys, masks, and the table row of a key.
 use mathlib.Core.Path.{_≡_, refl, sym, ap, ap₂, _∙_}
 use mathlib.Core.Logic.{⊎-elim}
-use mathlib.Core.Bool.{Bool, true, cond, not, _||_, _&&_}
+use mathlib.Core.Bool.{Bool, true, not, _||_, _&&_}
 use mathlib.Core.List.{List, []}
 use Prim.Native.Nat.{ℕ, zero, suc, _+_, _-_, _*_, _/_, _%_, _^_, _≤_, _<_, zero-le, max}
-use native.Mathlib.Nat.{le-refl, le-trans, not-suc-le-zero, le-of-suc-le-suc, zero-mul, one-mul, mul-le-mul-right, mod-eq-of-lt, div-div-eq-div-mul}
+use native.Mathlib.Nat.{le-trans, not-suc-le-zero, le-of-suc-le-suc, zero-mul, one-mul, mul-le-mul-right, mod-eq-of-lt, div-div-eq-div-mul}
 use native.Mathlib.Numerals.{add-one}
 use native.Mathlib.Omega.{arith}
 use borrow.Author.Tests.{lt-ltb, le-ltb, eqb-true}
 use lib.Bits.{bitAnd, bitOr, and-mask, and-zero-r}
-use lib.Count.{ones}
-use lib.Dec.{ltb, eqb, lit≤}
+use lib.Dec.{ltb, eqb}
 use lib.ListN.{length, getD}
 use lib.Pow.{pow-add}
 use lib.Signed.{ltZ}
@@ -18,11 +17,10 @@ use mir.Syntax.{w32}
 use mir.Val.{toZ}
 use mir.ValLaws.{toZ-pos}
 use Rattle.arithmetic.specs.SumsAndMaxima.{sumBelow, maxBelow}
-use Rattle.arithmetic.proofs.TestLaws.{lt-or-le, cond-le, le-cond, allBelow, all-below}
-use Rattle.arithmetic.proofs.SumLaws.{sum-same, max-same, max-map, ones-sum}
-use Rattle.map.specs.Size.{mapColumns}
-use Rattle.map.specs.Map.{largestCount, bitAt, markAt}
-use Rattle.map.specs.TableRow.{squareKilometre, belowDensity, tableRow}
+use Rattle.arithmetic.proofs.TestLaws.{lt-or-le, allBelow, all-below}
+use Rattle.arithmetic.proofs.SumLaws.{max-same, max-map}
+use Rattle.map.specs.Map.{largestCount, bitAt}
+use Rattle.map.specs.TableRow.{tableRow}
 use Rattle.map.proofs.TableRowLaws.{row-mono}
 use Rattle.footprint.specs.PrivateWalk.{Masks, maskOf}
 

@@ -5,15 +5,14 @@ use Prim.Native.Nat.{ℕ, zero, suc, _+_, _*_, _^_, _≤_, _<_}
 use native.Mathlib.Nat.{le-of-eq, le-trans, le-of-suc-le-suc, mul-le-mul, one-mul}
 use native.Mathlib.Numerals.{add-one}
 use native.Mathlib.Omega.{arith}
-use borrow.Author.Tests.{lt-ltb, eqb-false}
-use lib.Count.{ones}
+use borrow.Author.Tests.{lt-ltb}
 use lib.ListN.{getD}
-use Rattle.arithmetic.specs.SumsAndMaxima.{sumBelow, maxBelow}
+use Rattle.arithmetic.specs.SumsAndMaxima.{maxBelow}
 use Rattle.arithmetic.specs.PrivateFirstMaximum.{firstMaxBelow}
 use Rattle.arithmetic.proofs.RefusalLaws.{answer-promise}
-use Rattle.arithmetic.proofs.SumLaws.{sum-same, sum-le, sum-mono, max-mono, le-max, first-lt, first-at, first-before, sum-rows}
-use Rattle.map.specs.Size.{mapCells, mapRows, mapColumns}
-use Rattle.map.specs.Map.{largestCount, leastArea, largestArea, Map, countAt, bitAt, markAt, cellsIn}
+use Rattle.arithmetic.proofs.SumLaws.{sum-le, sum-mono, max-mono, le-max, first-lt, first-at, first-before}
+use Rattle.map.specs.Size.{mapCells, mapRows}
+use Rattle.map.specs.Map.{largestCount, Map, countAt, markAt}
 use Rattle.map.specs.TableRow.{tableRow, rowAt}
 use Rattle.map.specs.Refusals.{mapTests}
 use Rattle.footprint.specs.Footprint.{peopleAt, acceptedFootprint, footprintOf}

@@ -1,21 +1,20 @@
 -- Laws of the walk: a map row lent as a part, the map with one row more, and the answer from the whole.
 use mathlib.Core.Path.{_≡_, refl, sym, ap, ap₂, _∙_}
-use mathlib.Core.Logic.{⊎-elim}
-use mathlib.Core.Bool.{Bool, true, false, cond, not, _||_, _&&_}
+use mathlib.Core.Bool.{Bool, true, false, cond}
 use mathlib.Core.List.{List}
-use Prim.Native.Nat.{ℕ, zero, suc, _+_, _-_, _*_, _/_, _%_, _^_, _≤_, _<_}
-use native.Mathlib.Nat.{zero-mul, add-zero, le-of-eq, le-trans, le-of-suc-le-suc, mul-pos, mul-le-mul-right}
+use Prim.Native.Nat.{ℕ, zero, suc, _+_, _-_, _*_, _^_, _≤_, _<_}
+use native.Mathlib.Nat.{le-of-eq, le-trans, le-of-suc-le-suc}
 use native.Mathlib.Omega.{arith}
-use borrow.Author.Tests.{ltb-false, lt-ltb, le-ltb, ne-eqb}
+use borrow.Author.Tests.{lt-ltb, ne-eqb}
 use lib.Dec.{ltb, eqb}
 use lib.ListN.{length, getD}
 use Rattle.arithmetic.specs.Lists.{part}
-use Rattle.arithmetic.specs.SumsAndMaxima.{sumBelow, maxBelow, firstBest}
+use Rattle.arithmetic.specs.SumsAndMaxima.{sumBelow, maxBelow}
 use Rattle.arithmetic.specs.PrivateFirstMaximum.{firstMaxBelow}
-use Rattle.arithmetic.proofs.TestLaws.{any-none, inside, lt-or-le, cond-le}
+use Rattle.arithmetic.proofs.TestLaws.{cond-le}
 use Rattle.arithmetic.proofs.PartLaws.{slice-length, slice-at}
-use Rattle.arithmetic.proofs.SumLaws.{sum-same, max-same, first-same, max-map, sum-add, sum-le, max-le, first-lt, first-at, max-rows, first-rows, rowMax, firstInRow, le-max}
-use Rattle.arithmetic.proofs.BestLaws.{best-first, best-one, best-le, best-lt, best-next, best-is-first, first-order, first-value}
+use Rattle.arithmetic.proofs.SumLaws.{sum-same, max-same, first-same, sum-add, sum-le, max-le, max-rows, first-rows, firstInRow}
+use Rattle.arithmetic.proofs.BestLaws.{best-first, best-one, best-le, best-lt, best-next, best-is-first, first-value}
 use Rattle.map.specs.Size.{mapCells, mapRows, mapColumns}
 use Rattle.map.specs.Map.{largestCount, Map, countAt, bitAt, markAt, cellsIn}
 use Rattle.map.specs.TableRow.{tableRow}
@@ -27,7 +26,7 @@ use Rattle.footprint.specs.declared.walk.MapWalk.{MapWalk}
 use Rattle.map.proofs.MarkLaws.{mark-lt, mark-here}
 use Rattle.map.proofs.TestsPassed.{counts-small}
 use Rattle.footprint.proofs.CellLaws.{marked-le, key-le, no-key, by-keys, rowOfKey, row-of-largest}
-use Rattle.footprint.proofs.RowLaws.{above-pos, above-taken, row-empty}
+use Rattle.footprint.proofs.RowLaws.{above-pos, above-taken}
 
 -- ---- a map row lent as a part of the map's counts
 
@@ -139,15 +138,6 @@ module _ (counts marks : List ℕ) where
         omega (arith, ap (λ (x : MapWalk). x .people) map-next, sum-le (peopleAt counts marks) (2 ^ 32) (mapColumns * (r + 1)) (λ i m. le-trans (marked-le (markAt marks i) (countAt counts i) (mark-lt marks i)) (omega (arith, h i)))),
         omega (arith, ap (λ (x : MapWalk). x .cells) map-next, sum-le (markAt marks) 1 (mapColumns * (r + 1)) (λ i m. le-of-suc-le-suc (mark-lt marks i))),
       )
-
-    -- a row with no mark leaves the walk as it is
-    pub map-passed : getD marks r 0 ≡ 0 → w ≡ mapWalk counts marks (r + 1)
-    map-passed z =
-        let row = row-empty (lent counts marks r) (w .worst)
-        ∙ ap (λ (bits : ℕ). rowWalk (lent counts marks r) bits (w .worst)) (sym z) in
-        let p = sym (add-zero (w .people)) in
-        let k = sym (add-zero (w .cells)) in
-        (λ i. record { worst = w .worst; row = w .row; people = p i; cells = k i }) ∙ map-next row
 
 -- ---- the order of all cells by their keys
 

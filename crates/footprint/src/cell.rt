@@ -4,7 +4,6 @@ ghost use Prim.Native.Nat.{_+_, _*_, _<_, _≤_};
 ghost use lib.ListN.{length};
 ghost use Rattle.map.specs.Size.{mapColumns};
 ghost use Rattle.map.specs.Map.{largestCount, bitAt};
-ghost use Rattle.map.specs.TableRow.{belowDensity, tableRow};
 ghost use Rattle.footprint.specs.PrivateWalk.{Masks, markedCount};
 
 // A cell's key: one more than its count where it is marked, else 0, so that any marked cell is above any other, with no branch.

@@ -98,6 +98,13 @@ pub(crate) fn walk_row(masks: &[[u32; 4]], counts: &[u32], bits: u64, limit: u32
     requires { ⌜ Masks (now masks) × (length (now counts) ≡ mapColumns) × ((i : ℕ) → i < mapColumns → countAt (now counts) i ≤ largestCount) × (limit ≤ keyMax) ⌝ }
     ensures { λ r. ⌜ r ≡ rowWalk (now (counts .entry)) bits limit ⌝ }
 {
+    if bits == 0 {
+        return RowWalk {
+            worst: 0,
+            people: 0,
+            cells: 0,
+        };
+    }
     let count_limit = difference_or_zero(limit as u64, 1) as u32;
     let sum = sum_row(masks, counts, bits, count_limit);
     let cells = u64::count_ones(bits);

@@ -43,7 +43,7 @@ fn with_row(w: MapWalk, b: RowWalk, r: usize) -> MapWalk
     }
 }
 
-// All map rows, each lent as its own 64 counts. A row with no mark is passed over.
+// All map rows, each lent as its own 64 counts.
 pub(crate) fn walk_map(counts: &[u32], marks: &[u64]) -> MapWalk
     requires { ⌜ (length (now counts) ≡ mapCells) × (length (now marks) ≡ mapRows) × (wrongCount (now counts) ≡ false) ⌝ }
     ensures { λ r. ⌜ r ≡ mapWalk (now (counts .entry)) (now (marks .entry)) mapRows ⌝ }
@@ -58,12 +58,9 @@ pub(crate) fn walk_map(counts: &[u32], marks: &[u64]) -> MapWalk
     let masks = MASKS;
     let mut r: usize = 0;
     while r < MAP_ROWS {
-        let bits = marks[r];
-        if bits != 0 {
-            let from = MAP_COLUMNS * r;
-            let to = from + MAP_COLUMNS;
-            w = with_row(w, walk_row(&masks, &counts[from..to], bits, w.worst), r);
-        }
+        let from = MAP_COLUMNS * r;
+        let to = from + MAP_COLUMNS;
+        w = with_row(w, walk_row(&masks, &counts[from..to], marks[r], w.worst), r);
         r += 1;
     }
     w

@@ -1,7 +1,6 @@
 -- What a frame tells that was printed with no refusal, and that every answer is listed and shown.
 use mathlib.Core.Path.{_≡_, refl, sym, ap, _∙_, subst}
-use mathlib.Core.Logic.{inl, inr}
-use mathlib.Core.Bool.{Bool, true, false, cond}
+use mathlib.Core.Bool.{Bool, true, false}
 use mathlib.Core.List.{List, _∷_}
 use Prim.Native.Nat.{ℕ, _≤_}
 use native.Mathlib.Omega.{arith}
@@ -35,7 +34,7 @@ use Rattle.assessment.proofs.Demand3Holds.{demand-3}
 use Rattle.case_text.specs.Text.{readingTests}
 use Rattle.frame.specs.Layout.{frameLength}
 use Rattle.frame.specs.Frame.{writingTests, framed}
-use Rattle.frame.specs.FrameLaw.{refusalIn, ClassFits, FrameFits, Shows}
+use Rattle.frame.specs.FrameLaw.{refusalIn, ClassFits, FrameFits}
 use Rattle.frame.proofs.FrameLawHolds.{frame-law}
 use Rattle.ground_risk_case.specs.Case.{printedFields, questionIn, CaseBuffers, caseRefusal, caseAnswer, buffersLeft}
 use Rattle.ground_risk_case.specs.EndToEnd.{FrameTells, EndToEnd, caseRefusals, AnswerShown}

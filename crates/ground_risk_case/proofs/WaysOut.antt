@@ -1,5 +1,5 @@
 -- What the whole case answers and leaves, a law for each way out of its tests.
-use mathlib.Core.Path.{_≡_, refl, sym, ap, _∙_}
+use mathlib.Core.Path.{_≡_, refl, ap, _∙_}
 use mathlib.Core.List.{List}
 use Prim.Native.Nat.{ℕ, _≤_, _<_}
 use borrow.Author.Tests.{lt-ltb, le-ltb}
@@ -8,7 +8,7 @@ use Rattle.arithmetic.proofs.RefusalLaws.{refused-by, accepted-by}
 use Rattle.assessment.specs.declared.Assessment.{Assessment}
 use Rattle.assessment.specs.Assessment.{assessmentOf}
 use Rattle.case_text.specs.declared.Reading.{Reading}
-use Rattle.case_text.specs.Text.{MapBuffers, headOf, mapBuffersOf, readingTests, readingRefusal, ReadingContract}
+use Rattle.case_text.specs.Text.{MapBuffers, readingTests, readingRefusal, ReadingContract}
 use Rattle.case_text.specs.Promises.{ReadingPromise}
 use Rattle.case_text.proofs.PromisesHold.{refusal-is, reading-promise}
 use Rattle.frame.specs.declared.FrameFields.{FrameFields}

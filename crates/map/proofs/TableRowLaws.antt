@@ -8,7 +8,7 @@ use native.Mathlib.Omega.{arith}
 use borrow.Author.Tests.{lt-ltb, le-ltb}
 use lib.Dec.{lit≤}
 use Rattle.arithmetic.proofs.TestLaws.{lt-or-le, cond-le, le-cond}
-use Rattle.map.specs.Map.{largestCount, leastArea, wrongArea}
+use Rattle.map.specs.Map.{largestCount, wrongArea}
 use Rattle.map.specs.TableRow.{squareKilometre, belowDensity, tableRow, tableRowOrZero}
 
 module _ (area : ℕ) where

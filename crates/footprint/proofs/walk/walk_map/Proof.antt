@@ -1,7 +1,6 @@
 -- `footprint::walk::walk_map` meets its contract. The loop's invariant: the walk over the rows passed.
-use mathlib.Core.Path.{_≡_, refl, sym, ap, _∙_}
-use mathlib.Core.Logic.{⊎-elim}
-use Prim.Native.Nat.{_-_, _≤_, _<_}
+use mathlib.Core.Path.{_≡_, refl, ap, _∙_}
+use Prim.Native.Nat.{_-_, _≤_}
 use native.Mathlib.Omega.{arith}
 use Rattle.arithmetic.specs.SumsAndMaxima.{sumBelow, firstBest}
 use Rattle.map.specs.Size.{mapRows}
@@ -20,12 +19,6 @@ abbrev μ-loop : tie.MeasureT-loop
 loop-holds : tie.Need-loop-holds Inv-loop μ-loop
 unfolding sumBelow firstBest
 loop-holds c = (omega arith, refl)
-
-mul-bits : tie.Need-mul-bits Inv-loop μ-loop
-mul-bits c = omega arith
-
-shared-slice-read-bits : tie.Need-shared-slice-read-bits Inv-loop μ-loop
-shared-slice-read-bits c = omega arith
 
 mul-from : tie.Need-mul-from Inv-loop μ-loop
 mul-from c = omega arith
@@ -48,31 +41,29 @@ part-walk-row-start c = omega arith
 part-walk-row-end : tie.Need-part-walk-row-end Inv-loop μ-loop
 part-walk-row-end c = omega arith
 
+mul-walk-row-2 : tie.Need-mul-walk-row-2 Inv-loop μ-loop
+mul-walk-row-2 c = omega arith
+
+shared-slice-read-walk-row : tie.Need-shared-slice-read-walk-row Inv-loop μ-loop
+shared-slice-read-walk-row c = omega arith
+
 walk-row-requires : tie.Need-walk-row-requires Inv-loop μ-loop
 walk-row-requires c κs =
-    let at = c .before .before .before .before .before in
-    let start = at .before .before .before in
+    let start = c .before .before .before .before .before .before .before in
+    let at = c .before .before .before .before .loop in
     let counts = start .args .counts .now in
-    let marks = start .args .marks .now in
-    let r = at .loop .r in
-    let l : r < mapRows = omega arith in
-    let before = at .loop .inv .1 in (
+    let marks = start .args .marks .now in (
       masks-are _ refl refl,
-      law.lent-length counts marks r (omega arith),
-      law.lent-small counts marks r l (start .pre .2),
-      law.worst-small counts marks (start .pre .2) r l before,
+      law.lent-length counts marks (at .r) (omega arith),
+      law.lent-small counts marks (at .r) (omega arith) (start .pre .2),
+      law.worst-small counts marks (start .pre .2) (at .r) (omega arith) (at .inv .1),
     )
 
 with-row-requires : tie.Need-with-row-requires Inv-loop μ-loop
 with-row-requires c κs =
-    let at = c .before .before .before .before .before .before in
-    let start = at .before .before .before in
-    let counts = start .args .counts .now in
-    let marks = start .args .marks .now in
-    let r = at .loop .r in
-    let l : r < mapRows = omega arith in
-    let before = at .loop .inv .1 in
-    law.map-fits counts marks (start .pre .2) r l before (c .walk-row .ensures) (λ p. omega (arith, at .before .before .shared-slice-known .given p))
+    let start = c .before .before .before .before .before .before .before .before in
+    let at = c .before .before .before .before .before .loop in
+    law.map-fits (start .args .counts .now) (start .args .marks .now) (start .pre .2) (at .r) (omega arith) (at .inv .1) (c .walk-row .ensures) (λ p. omega (arith, c .before .before .before .before .before .before .before .shared-slice-known .given p))
 
 add-r : tie.Need-add-r Inv-loop μ-loop
 add-r c = omega arith
@@ -82,17 +73,9 @@ loop-less c = omega arith
 
 loop-again : tie.Need-loop-again Inv-loop μ-loop
 loop-again c =
-    let at = c .before .before .before in
-    let start = at .before .before .before in
-    let counts = start .args .counts .now in
-    let marks = start .args .marks .now in
-    let r = at .loop .r in
-    let l : r < mapRows = omega arith in
-    let before = at .loop .inv .1 in
-    ⊎-elim
-    (λ d. (omega arith, d .5 ∙ d .4 .ensures ∙ law.map-next counts marks (start .pre .2) r l before (d .3 .ensures)))
-    (λ d. (omega arith, d .1 ∙ law.map-passed counts marks (start .pre .2) r l before (d .0 .left)))
-    (c .if1 .came)
+    let start = c .before .before .before .before .before .before .before .before .before in
+    let at = c .before .before .before .before .before .before .loop in
+    (omega arith, c .with-row .ensures ∙ law.map-next (start .args .counts .now) (start .args .marks .now) (start .pre .2) (at .r) (omega arith) (at .inv .1) (c .before .walk-row .ensures))
 
 returns : tie.Need-returns Inv-loop μ-loop
 returns c =
@@ -107,8 +90,6 @@ walk-map-spec =
     Inv-loop
     μ-loop
     loop-holds
-    mul-bits
-    shared-slice-read-bits
     mul-from
     add-to
     slice-aggregate-walk-row
@@ -116,6 +97,8 @@ walk-map-spec =
     sub-walk-row
     part-walk-row-start
     part-walk-row-end
+    mul-walk-row-2
+    shared-slice-read-walk-row
     walk-row-requires
     with-row-requires
     add-r
