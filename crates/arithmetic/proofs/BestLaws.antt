@@ -67,8 +67,3 @@ module _ (beats : ℕ → ℕ → Bool) where
         let test : beats m (firstMaxBelow key m) ≡ ltb (maxBelow key m) (key m) =
         h m (firstMaxBelow key m) (omega arith) (omega arith) ∙ ap (λ (x : ℕ). ltb x (key m)) (first-value key m (omega arith)) in
         ap (λ (x : ℕ). cond (beats m x) m x) before ∙ ap (λ (t : Bool). cond t m (firstMaxBelow key m)) test
-
--- numbers in the same order have the same first maximum
-pub first-order : (f g : ℕ → ℕ) (n : ℕ) → ((q p : ℕ) → q < n → p < n → ltb (f p) (f q) ≡ ltb (g p) (g q)) → firstMaxBelow f n ≡ firstMaxBelow g n
-first-order f g n h =
-    sym (best-is-first (λ q p. ltb (f p) (f q)) f n (λ q p l k. refl)) ∙ best-is-first (λ q p. ltb (f p) (f q)) g n h

@@ -87,10 +87,6 @@ module _ (f : ℕ → ℕ) where
   unfolding maxBelow
   max-next n = rw (add-one n)
 
-  pub first-next : (n : ℕ) → firstMaxBelow f (n + 1) ≡ cond (ltb (maxBelow f n) (f n)) n (firstMaxBelow f n)
-  unfolding firstMaxBelow
-  first-next n = rw (add-one n)
-
   -- the first n, and then m more
   pub sum-add : (n m : ℕ) → sumBelow f (n + m) ≡ sumBelow f n + sumBelow (λ i. f (n + i)) m
   unfolding sumBelow
