@@ -12,7 +12,8 @@ unfoldable pub maxBelow : (ℕ → ℕ) → ℕ → ℕ
 maxBelow f zero = 0
 maxBelow f (suc n) = max (maxBelow f n) (f n)
 
--- the first index below n that no other beats, where `beats q p` says that q beats p, and 0 where none beats another
+-- the best of the indices below n: each in its turn is taken where it beats the best before it, as `beats q p` says of q and p; 0 where none is.
+-- Where a number for each index gives the relation, this is the first index with the largest
 unfoldable pub firstBest : (ℕ → ℕ → Bool) → ℕ → ℕ
 firstBest beats zero = 0
 firstBest beats (suc n) = cond (beats n (firstBest beats n)) n (firstBest beats n)

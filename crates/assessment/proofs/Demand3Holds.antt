@@ -7,10 +7,10 @@ use Rattle.exact_area.specs.Accuracy.{ColumnIsAccurate}
 use Rattle.exact_area.proofs.AccuracyHolds.{sheet-is-accurate}
 use Rattle.assessment.specs.Question.{sheetAsked, exactColumnAsked, footprintAsked}
 use Rattle.assessment.specs.Working.{workingAt}
-use Rattle.assessment.specs.Demand3.{SameWorking, sheetWorking, exactWorking, Demand3Holds}
+use Rattle.assessment.specs.Demand3.{SameWorking, sheetWorking, exactWorking, Demand3OfAll}
 use Rattle.assessment.proofs.LowerColumn.{lower-column}
 
-pub demand-3 : Demand3Holds
+pub demand-3 : Demand3OfAll
 demand-3 q accepted =
     record {
       accuracy = sheet-is-accurate (q .dimension) (q .mass) (q .speed) .area accepted;

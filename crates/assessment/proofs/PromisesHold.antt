@@ -28,71 +28,73 @@ use Rattle.assessment.proofs.WaysOut.{not-refused}
 
 -- ---- the refusal is listed, and a refused assessment is all zeros
 
-abbrev Listed : ℕ → Type 0
-Listed n = OneOf n (0 ∷ assessmentRefusals)
+-- a number of q's refusals, or 0; which question it is makes no difference, since the numbers of a list don't depend on what is tested
+module _ (q : Question) where
+  abbrev Listed : ℕ → Type 0
+  Listed n = OneOf n (0 ∷ assessmentRefusals q)
 
--- a working goes on, or ends with a refusal
-ends : (t : Bool) (x y : Working) → Listed (x .refusal) → Listed (y .refusal) → Listed (cond t x y .refusal)
-ends true x y h k = h
-ends false x y h k = k
+  -- a working goes on, or ends with a refusal
+  ends : (t : Bool) (x y : Working) → Listed (x .refusal) → Listed (y .refusal) → Listed (cond t x y .refusal)
+  ends true x y h k = h
+  ends false x y h k = k
 
-class-listed : (column row controlled : ℕ) → Listed (intrinsicClassOf column row controlled .refusal)
-class-listed column row controlled =
-    one-of-more _ (0 ∷ numbers (classTests column row controlled)) (0 ∷ assessmentRefusals) refl (intrinsic-promise column row controlled .answer .listed)
+  class-listed : (column row controlled : ℕ) → Listed (intrinsicClassOf column row controlled .refusal)
+  class-listed column row controlled =
+      one-of-more _ (0 ∷ numbers (classTests column row controlled)) (0 ∷ assessmentRefusals q) refl (intrinsic-promise column row controlled .answer .listed)
 
-final-listed : (column class word : ℕ) → Listed (finalClassOf column class word .refusal)
-final-listed column class word =
-    one-of-more _ (0 ∷ numbers (mitigationTests column class word)) (0 ∷ assessmentRefusals) refl (final-promise column class word .answer .listed)
+  final-listed : (column class word : ℕ) → Listed (finalClassOf column class word .refusal)
+  final-listed column class word =
+      one-of-more _ (0 ∷ numbers (mitigationTests column class word)) (0 ∷ assessmentRefusals q) refl (final-promise column class word .answer .listed)
 
-footprint-listed : (map : Map) (marks : List ℕ) → Listed (footprintOf map marks .refusal)
-footprint-listed map marks =
-    one-of-more _ (0 ∷ numbers (mapTests map marks)) (0 ∷ assessmentRefusals) refl (footprint-promise map marks .refusal .listed)
+  footprint-listed : (map : Map) (marks : List ℕ) → Listed (footprintOf map marks .refusal)
+  footprint-listed map marks =
+      one-of-more _ (0 ∷ numbers (mapTests map marks)) (0 ∷ assessmentRefusals q) refl (footprint-promise map marks .answer .listed)
 
-sheet-listed : (w m v : ℕ) → Listed (sheetOf w m v .refusal)
-sheet-listed w m v = one-of-more _ (0 ∷ numbers (sheetTests w m v)) (0 ∷ assessmentRefusals) refl (sheet-promise w m v .listed)
+  sheet-listed : (w m v : ℕ) → Listed (sheetOf w m v .refusal)
+  sheet-listed w m v = one-of-more _ (0 ∷ numbers (sheetTests w m v)) (0 ∷ assessmentRefusals q) refl (sheet-promise w m v .listed)
 
-after-class : (column class word : ℕ) → Listed (afterClass column class word .refusal)
-unfolding afterClass
-after-class column class word = ends (eqb (finalClassOf column class word .refusal) 0) _ _ (inl refl) (final-listed column class word)
+  after-class : (column class word : ℕ) → Listed (afterClass column class word .refusal)
+  unfolding afterClass
+  after-class column class word = ends (eqb (finalClassOf column class word .refusal) 0) _ _ (inl refl) (final-listed column class word)
 
-after-footprint : (column row controlled word : ℕ) → Listed (afterFootprint column row controlled word .refusal)
-unfolding afterFootprint
-after-footprint column row controlled word =
-    ends (eqb (intrinsicClassOf column row controlled .refusal) 0) _ _ (after-class column _ word) (class-listed column row controlled)
+  after-footprint : (column row controlled word : ℕ) → Listed (afterFootprint column row controlled word .refusal)
+  unfolding afterFootprint
+  after-footprint column row controlled word =
+      ends (eqb (intrinsicClassOf column row controlled .refusal) 0) _ _ (after-class column _ word) (class-listed column row controlled)
 
-working-listed : (column : ℕ) (footprint : Footprint) (controlled word : ℕ) → Listed (footprint .refusal) → Listed (workingOn column footprint controlled word .refusal)
-unfolding workingOn
-working-listed column footprint controlled word h =
-    ends (eqb (footprint .refusal) 0) _ _ (after-footprint column (footprint .row) controlled word) h
+  working-listed : (column : ℕ) (footprint : Footprint) (controlled word : ℕ) → Listed (footprint .refusal) → Listed (workingOn column footprint controlled word .refusal)
+  unfolding workingOn
+  working-listed column footprint controlled word h =
+      ends (eqb (footprint .refusal) 0) _ _ (after-footprint column (footprint .row) controlled word) h
 
--- an assessment that is refused with a listed number, or not refused
-record IsPromised (a : Assessment) : Type 0 where
-  listed : Listed (a .refusal)
-  if-refused : (a .refusal ≡ 0 → ⊥) → a ≡ refusedAssessment (a .refusal)
+  -- an assessment that is refused with a listed number, or not refused
+  record IsPromised (a : Assessment) : Type 0 where
+    listed : Listed (a .refusal)
+    if-refused : (a .refusal ≡ 0 → ⊥) → a ≡ refusedAssessment (a .refusal)
 
-refused-is : (n : ℕ) → Listed n → IsPromised (refusedAssessment n)
-refused-is n h = record { listed = h; if-refused = λ _. refl }
+  refused-is : (n : ℕ) → Listed n → IsPromised (refusedAssessment n)
+  refused-is n h = record { listed = h; if-refused = λ _. refl }
 
-accepted-is : (a : Assessment) → a .refusal ≡ 0 → IsPromised a
-accepted-is a e = record { listed = inl e; if-refused = λ h. absurd (h e) }
+  accepted-is : (a : Assessment) → a .refusal ≡ 0 → IsPromised a
+  accepted-is a e = record { listed = inl e; if-refused = λ h. absurd (h e) }
 
-chosen : (t : Bool) (a : Assessment) (n : ℕ) → IsPromised a → Listed n → IsPromised (cond t a (refusedAssessment n))
-chosen true a n p h = p
-chosen false a n p h = refused-is n h
+  chosen : (t : Bool) (a : Assessment) (n : ℕ) → IsPromised a → Listed n → IsPromised (cond t a (refusedAssessment n))
+  chosen true a n p h = p
+  chosen false a n p h = refused-is n h
 
-promised : (q : Question) → IsPromised (assessmentOf q)
-unfolding assessmentOf assessedBy
-promised q =
-    chosen (eqb (sheetAsked q .refusal) 0) _ _
-    (chosen (eqb (workingAt column q .refusal) 0) _ _ (accepted-is _ refl)
-    (working-listed column (footprintAsked q) (q .controlled) (q .word) (footprint-listed (q .map) (q .marks))))
-    (sheet-listed (q .dimension) (q .mass) (q .speed))
-  where
-    column : ℕ
-    column = sheetAsked q .sheet .column
+  promised : IsPromised (assessmentOf q)
+  unfolding assessmentOf assessedBy
+  promised =
+      chosen (eqb (sheetAsked q .refusal) 0) _ _
+      (chosen (eqb (workingAt column q .refusal) 0) _ _ (accepted-is _ refl)
+      (working-listed column (footprintAsked q) (q .controlled) (q .word) (footprint-listed (q .map) (q .marks))))
+      (sheet-listed (q .dimension) (q .mass) (q .speed))
+    where
+      column : ℕ
+      column = sheetAsked q .sheet .column
 
-pub assessment-promise : (q : Question) → AssessmentPromise q
-assessment-promise q = record { listed = promised q .listed; if-refused = promised q .if-refused }
+  pub assessment-promise : AssessmentPromise q
+  assessment-promise = record { listed = promised .listed; if-refused = promised .if-refused }
 
 -- ---- an assessment that isn't refused has every part given, and shows them
 

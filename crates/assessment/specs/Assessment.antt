@@ -12,7 +12,7 @@ use Rattle.assessment.specs.Question.{Question, sheetAsked, footprintAsk
 use Rattle.assessment.specs.Working.{Given, given, notGiven, Working, workingAt}
 use Rattle.assessment.specs.declared.Assessment.{Assessment}
 
--- after a refusal every number is zero
+-- "After a refusal every number is zero"
 abbrev pub refusedAssessment : ℕ → Assessment
 refusedAssessment n =
     record { refusal = n; sheet = zeroSheet; footprint = refusedFootprint 0; «row_used» = 0; intrinsic = 0; «final_class» = pos 0 }

@@ -40,5 +40,5 @@ pub record Demand3 (q : Question) : Type 0 where
   pub flagged-working : sheetAsked q .sheet .flag ≡ 1 → SameOrLower (sheetWorking q) (exactWorking q)
 
 -- no hypothesis beyond acceptance: lists of any numbers and lengths, any three numbers beside them
-abbrev pub Demand3Holds : Type 0
-Demand3Holds = (q : Question) → sheetAsked q .refusal ≡ 0 → Demand3 q
+abbrev pub Demand3OfAll : Type 0
+Demand3OfAll = (q : Question) → sheetAsked q .refusal ≡ 0 → Demand3 q

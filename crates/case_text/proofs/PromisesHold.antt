@@ -22,7 +22,7 @@ module _ (text : List ℕ) (lent : MapBuffers) where
   reading-promise {reading} c =
       let number : reading .refusal ≡ readingRefusal text lent = ap (λ (r : Reading). r .refusal) (c .answers) ∙ refusal-is in
       record {
-        refusal = rw (c .answers) answer;
+        answer = rw (c .answers) answer;
         kept = λ some. c .left ∙ sym (refused-by (mapBuffersOf text) (λ _. lent) (readingTests text lent) refl number some);
         filled = λ none. c .left ∙ sym (accepted-by (mapBuffersOf text) (λ _. lent) (readingTests text lent) refl number none);
       }

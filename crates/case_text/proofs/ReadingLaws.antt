@@ -39,13 +39,13 @@ module _ (t : List ℕ) (lent : MapBuffers) where
       let right = lengths (lent .counts) (lent .marks) (tests .1 .0) in
       record {
         text-long = eqb-true _ _ (not-false _ (tests .0));
-        buffers = record { counts = right .0; marks = right .1 };
+        buffers = record { counts-length = right .0; marks-length = right .1 };
         text = not-false _ (tests .1 .1 .0);
       }
 
   pub accepted-none : Accepted → readingRefusal t lent ≡ 0
   unfolding readingRefusal
-  accepted-none a = simp (a .text-long, a .buffers .counts, a .buffers .marks, a .text)
+  accepted-none a = simp (a .text-long, a .buffers .counts-length, a .buffers .marks-length, a .text)
 
   -- what is answered and left, from the refusal number
   module _ {n : ℕ} (is : n ≡ readingRefusal t lent) where

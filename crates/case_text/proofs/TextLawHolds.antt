@@ -23,8 +23,8 @@ fits-blocks : (f : CaseFields) → Fits f → BlocksFit (blocksWith f)
 fits-blocks f fits = (
   line-fits (line1 .widths) (headValues (f .head)) refl (fits .dimension, (fits .mass, (fits .speed, (fits .cell-area, (fits .controlled, (fits .word, tt)))))),
   (
-    uniform-fits mapRows 1 markWidth (f .buffers .marks) (fits .marks-long) (fits .mark),
-    (uniform-fits mapRows mapColumns countWidth (f .buffers .counts) (fits .counts-long) (fits .count), tt),
+    uniform-fits mapRows 1 markWidth (f .buffers .marks) (fits .marks-length) (fits .mark),
+    (uniform-fits mapRows mapColumns countWidth (f .buffers .counts) (fits .counts-length) (fits .count), tt),
   ),
 )
 
@@ -40,9 +40,9 @@ blocks-fit f fit =
       cell-area = head .1 .1 .1 .0;
       controlled = head .1 .1 .1 .1 .0;
       word = head .1 .1 .1 .1 .1 .0;
-      marks-long = uniform-long mapRows 1 markWidth marks (fit .1 .0);
+      marks-length = uniform-long mapRows 1 markWidth marks (fit .1 .0);
       mark = uniform-below mapRows 1 markWidth marks (omega arith) (fit .1 .0);
-      counts-long = uniform-long mapRows mapColumns countWidth counts (fit .1 .1 .0);
+      counts-length = uniform-long mapRows mapColumns countWidth counts (fit .1 .1 .0);
       count = uniform-below mapRows mapColumns countWidth counts (omega arith) (fit .1 .1 .0);
     }
 
@@ -95,14 +95,14 @@ module _ (text : List ℕ) (lent : MapBuffers) {reading : Reading} {after : MapB
   written-read f fits is right =
       let none : reading .refusal ≡ 0 = refusal ∙ accepted-none text lent (record { text-long = ap length is ∙ text-long f; buffers = right; text = ap isText is ∙ text-accepted f }) in
       let read : fieldsOf text ≡ f = ap fieldsOf is ∙ fields-read f fits in (
-        promise .refusal .if-accepted none ∙ ap (λ (x : CaseFields). record { refusal = 0; head = x .head }) read,
+        promise .answer .if-accepted none ∙ ap (λ (x : CaseFields). record { refusal = 0; head = x .head }) read,
         promise .filled none ∙ ap (λ (x : CaseFields). x .buffers) read,
       )
 
   read-written : reading .refusal ≡ 0 → textOf (record { head = reading .head; buffers = after }) ≡ text
   read-written none =
       let a = refusal-none text lent (sym refusal ∙ none) in
-      let head : reading .head ≡ headOf text = ap (λ (r : Reading). r .head) (promise .refusal .if-accepted none) in
+      let head : reading .head ≡ headOf text = ap (λ (r : Reading). r .head) (promise .answer .if-accepted none) in
       rw (head, promise .filled none) (text-back text (a .text-long) (a .text))
 
   pub reading-law : ReadingLaw text lent reading after

@@ -7,9 +7,9 @@ use Rattle.case_text.specs.Text.{MapBuffers, mapBuffersOf, readingTests,
 use Rattle.case_text.specs.declared.Reading.{Reading}
 
 pub record ReadingPromise (text : List ℕ) (lent : MapBuffers) (reading : Reading) (after : MapBuffers) : Type 0 where
-  -- each refusal exactly when its test is the first that holds; the refusal is 0 or a number of the reading's list, and where it isn't 0 all other
-  -- numbers are zero (demand 1)
-  pub refusal : AnswerPromise (λ (r : Reading). r .refusal) (readingTests text lent) (acceptedReading text) refusedReading reading
+  -- each refusal exactly when its test is the first that holds; the refusal is 0 or a number of the reading's list, and "After a
+  -- refusal every number is zero" (demand 1)
+  pub answer : AnswerPromise (λ (r : Reading). r .refusal) (readingTests text lent) (acceptedReading text) refusedReading reading
   -- "a refused reading changes neither buffer"; "A reading that succeeds fills both buffers"
   pub kept : (reading .refusal ≡ 0 → ⊥) → after ≡ lent
   pub filled : reading .refusal ≡ 0 → after ≡ mapBuffersOf text

@@ -6,7 +6,7 @@ use mathlib.Core.List.{List, [], _∷_}
 use lib.Dec.{eqb}
 use lib.ListN.{length, getD}
 use Rattle.arithmetic.specs.Refusals.{Test, _when_, firstRefusal, answered}
-use Rattle.map.specs.Refusals.{wrongCountsLength, wrongMarksLength}
+use Rattle.map.specs.Refusals.{wrongLengths}
 use Rattle.hex.specs.Blocks.{areBlocks, valuesAt}
 use Rattle.case_text.specs.Layout.{line1, markLines, countLines, caseBlocks, marksStart, countsStart, textLength}
 use Rattle.case_text.specs.declared.CaseHead.{CaseHead}
@@ -52,7 +52,7 @@ wrongTextLength t = not (eqb (length t) textLength)
 
 -- "5 a lent count or footprint buffer of the wrong length"
 abbrev pub wrongBufferLength : MapBuffers → Bool
-wrongBufferLength lent = wrongCountsLength (lent .counts) || wrongMarksLength (lent .marks)
+wrongBufferLength lent = wrongLengths (lent .counts) (lent .marks)
 
 -- "14 a byte that isn't a digit or line end in its place"
 abbrev pub wrongByte : List ℕ → Bool
@@ -66,6 +66,7 @@ readingTests t lent =
     ∷ 14 when wrongByte t
     ∷ []
 
+-- the number of the first, 0 where there is none
 unfoldable pub readingRefusal : List ℕ → MapBuffers → ℕ
 readingRefusal t lent = firstRefusal (readingTests t lent)
 

@@ -1,4 +1,4 @@
--- The text law: the text of given fields is read as those fields, and a text that is read is the text of what was read. So no
+-- The text law, demand 2: "a case text that is read shows exactly the fields that stand in it". The text of given fields is read as those fields, and a text that is read is the text of what was read. So no
 -- two texts read alike, and nothing in a text goes unread.
 use Prim.Native.Nat.{ℕ, _^_, _<_}
 use mathlib.Core.Path.{_≡_}
@@ -39,9 +39,9 @@ pub record Fits (f : CaseFields) : Type 0 where
   pub cell-area : f .head .«cell_area» < 16 ^ cellAreaWidth
   pub controlled : f .head .controlled < 16 ^ controlledWidth
   pub word : f .head .word < 16 ^ wordWidth
-  pub marks-long : length (f .buffers .marks) ≡ mapRows
+  pub marks-length : length (f .buffers .marks) ≡ mapRows
   pub mark : (k : ℕ) → k < mapRows → getD (f .buffers .marks) k 0 < 16 ^ markWidth
-  pub counts-long : length (f .buffers .counts) ≡ mapCells
+  pub counts-length : length (f .buffers .counts) ≡ mapCells
   pub count : (k : ℕ) → k < mapCells → getD (f .buffers .counts) k 0 < 16 ^ countWidth
 
 -- the law over the definitions
@@ -59,8 +59,8 @@ pub record TextLaw : Type 0 where
 
 -- map buffers of the right lengths
 pub record RightLengths (lent : MapBuffers) : Type 0 where
-  pub counts : length (lent .counts) ≡ mapCells
-  pub marks : length (lent .marks) ≡ mapRows
+  pub counts-length : length (lent .counts) ≡ mapCells
+  pub marks-length : length (lent .marks) ≡ mapRows
 
 -- the law of one reading, in the words of its contract
 pub record ReadingLaw (text : List ℕ) (lent : MapBuffers) (reading : Reading) (after : MapBuffers) : Type 0 where

@@ -41,5 +41,6 @@ flagOf low column = cond (ltb 1 column) (cond (leb low (limitAt (column - 2))) 1
 abbrev pub columnAndFlag : ℕ → ℕ → ColumnAndFlag
 columnAndFlag column flag = record { column = column; flag = flag }
 
+-- the column and the flag of an area
 abbrev pub columnAndFlagOf : Bracket → ColumnAndFlag
 columnAndFlagOf area = columnAndFlag (columnOf (area .high)) (flagOf (area .low) (columnOf (area .high)))

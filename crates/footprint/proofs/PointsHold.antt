@@ -1,7 +1,7 @@
 -- The footprint of P16, by rule.
 use mathlib.Core.Path.{_≡_, refl, sym, ap, ap₂, _∙_}
 use mathlib.Core.Logic.{⊎-elim}
-use mathlib.Core.Bool.{false, _||_}
+use mathlib.Core.Bool.{false}
 use mathlib.Core.List.{List}
 use Prim.Native.Nat.{ℕ, zero, suc, _+_, _-_, _*_, _/_, _%_, _^_, _≤_, _<_}
 use native.Mathlib.Nat.{div-eq-of-lt}
@@ -17,7 +17,7 @@ use Rattle.arithmetic.proofs.SumLaws.{sum-first, max-first, first-first}
 use Rattle.map.specs.Size.{mapCells}
 use Rattle.map.specs.Map.{largestCount, Map, countAt, bitAt, markAt, cellsIn}
 use Rattle.map.specs.TableRow.{tableRow}
-use Rattle.map.specs.Refusals.{wrongCountsLength, wrongMarksLength, wrongCount, noMark, mapTests}
+use Rattle.map.specs.Refusals.{wrongLengths, wrongCount, noMark, mapTests}
 use Rattle.footprint.specs.Footprint.{peopleAt, highestRow, worstPlace, peopleIn, refusedFootprint, acceptedFootprint, footprintOf}
 use Rattle.footprint.specs.PrivateWalk.{keyAt}
 use Rattle.footprint.specs.Points.{P16Map, P16Footprint}
@@ -78,7 +78,7 @@ module _ (counts marks : List ℕ) (m : P16Map counts marks) where
 pub p16-footprint : P16Footprint
 unfolding footprintOf
 p16-footprint counts marks m =
-    let lengths-in : (wrongCountsLength counts || wrongMarksLength marks) ≡ false = simp (eq-eqb _ _ (m .counts-length), eq-eqb _ _ (m .marks-length)) in
+    let lengths-in : wrongLengths counts marks ≡ false = simp (eq-eqb _ _ (m .counts-length), eq-eqb _ _ (m .marks-length)) in
     let counts-in : wrongCount counts ≡ false =
     none-any (λ p. ltb largestCount (countAt counts p)) mapCells (λ p l. le-ltb largestCount (countAt counts p) (count-le counts marks m p)) in
     let marks-in : noMark marks ≡ false = ap (λ (n : ℕ). eqb n 0) (cells-is counts marks m) in

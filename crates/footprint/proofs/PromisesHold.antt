@@ -17,7 +17,7 @@ use Rattle.map.specs.TableRow.{tableRow, rowAt}
 use Rattle.map.specs.Refusals.{mapTests}
 use Rattle.footprint.specs.Footprint.{peopleAt, acceptedFootprint, footprintOf}
 use Rattle.footprint.specs.PrivateWalk.{keyAt}
-use Rattle.footprint.specs.Promises.{EmptyCell, FootprintRefusal, AcceptedInput, FootprintRanges, WorstCell, SetBits, FootprintPromise, Monotone}
+use Rattle.footprint.specs.Promises.{FootprintAnswer, AcceptedInput, FootprintRanges, WorstCell, SetBits, FootprintPromise, Monotone}
 use Rattle.footprint.specs.declared.Footprint.{Footprint}
 use Rattle.map.proofs.TableRowLaws.{row-mono, row-ge, row-le}
 use Rattle.map.proofs.MarkLaws.{mark-lt, cells-are-ones}
@@ -25,22 +25,18 @@ use Rattle.map.proofs.TestsPassed.{Passed, passed, counts-small}
 use Rattle.footprint.proofs.CellLaws.{marked-le, rowOfKey, row-of-largest}
 use Rattle.footprint.proofs.WalkLaws.{place-is, some-place}
 
-pub empty-cell : EmptyCell
-unfolding tableRow
-empty-cell area l = simp (lt-ltb 0 (5 * area) (omega arith))
-
-pub refusal : (map : Map) (marks : List ℕ) → FootprintRefusal map marks
+pub answer : (map : Map) (marks : List ℕ) → FootprintAnswer map marks
 unfolding footprintOf
-refusal map marks = answer-promise _ _ _ refl (λ n. refl) (mapTests map marks) refl
+answer map marks = answer-promise _ _ _ refl (λ n. refl) (mapTests map marks) refl
 
 -- ---- an input that isn't refused
 
 module _ (map : Map) (marks : List ℕ) (ok : footprintOf map marks .refusal ≡ 0) where
   found-is : footprintOf map marks ≡ acceptedFootprint map marks
-  found-is = refusal map marks .if-accepted ok
+  found-is = answer map marks .if-accepted ok
 
   known : Passed map marks
-  known = passed map marks (refusal map marks .exactly-when 0 .0 ok)
+  known = passed map marks (answer map marks .exactly-when 0 .0 ok)
 
   pub accepted : AcceptedInput map marks
   accepted = record {
@@ -114,7 +110,7 @@ module _ (map : Map) (marks : List ℕ) (ok : footprintOf map marks .refusal ≡
 
 pub footprint-promise : (map : Map) (marks : List ℕ) → FootprintPromise map marks
 footprint-promise map marks = record {
-  refusal = refusal map marks;
+  answer = answer map marks;
   accepted = accepted map marks;
   ranges = ranges map marks;
   worst = worst-cell map marks;

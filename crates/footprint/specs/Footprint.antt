@@ -23,7 +23,7 @@ morePeople map q p = ltb (countAt (map .counts) p) (countAt (map .counts) q)
 abbrev pub worse : Map → List ℕ → ℕ → ℕ → Bool
 worse map marks q p = marked marks q && (not (marked marks p) || morePeople map q p)
 
--- "the place (64 × row + column) of the first marked cell with the largest count": the first that no other is worse than
+-- "the place (64 × row + column) of the first marked cell with the largest count": a cell is taken where it is worse than the worst before it
 abbrev pub worstPlace : Map → List ℕ → ℕ
 worstPlace map marks = firstBest (worse map marks) mapCells
 
@@ -34,6 +34,7 @@ peopleAt counts marks p = markAt marks p * countAt counts p
 abbrev pub peopleIn : List ℕ → List ℕ → ℕ
 peopleIn counts marks = sumBelow (peopleAt counts marks) mapCells
 
+-- "After a refusal every number is zero"
 abbrev pub refusedFootprint : ℕ → Footprint
 refusedFootprint n = record { refusal = n; row = 0; place = 0; people = 0; cells = 0 }
 
@@ -47,5 +48,6 @@ acceptedFootprint map marks = record {
   cells = cellsIn marks;
 }
 
+-- the footprint on a map, or its refusal
 unfoldable pub footprintOf : Map → List ℕ → Footprint
 footprintOf map marks = answered (mapTests map marks) (acceptedFootprint map marks) refusedFootprint

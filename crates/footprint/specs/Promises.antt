@@ -8,19 +8,14 @@ use Rattle.arithmetic.specs.Refusals.{AnswerPromise}
 use Rattle.arithmetic.specs.SumsAndMaxima.{sumBelow}
 use Rattle.map.specs.Size.{mapCells, mapRows}
 use Rattle.map.specs.Map.{largestCount, leastArea, largestArea, Map, countAt, markAt}
-use Rattle.map.specs.TableRow.{tableRow, rowAt}
+use Rattle.map.specs.TableRow.{rowAt}
 use Rattle.map.specs.Refusals.{mapTests}
 use Rattle.footprint.specs.Footprint.{refusedFootprint, acceptedFootprint, footprintOf}
 use Rattle.footprint.specs.declared.Footprint.{Footprint}
 
--- "An empty cell is row 2."
-abbrev pub EmptyCell : Type 0
-EmptyCell = (area : ℕ) → leastArea ≤ area → tableRow 0 area ≡ 2
-
--- each refusal exactly when its test is the first that holds; the refusal is 0 or a number of the footprint's list, and where it isn't 0 all
--- other numbers are zero (demand 1)
-abbrev pub FootprintRefusal : Map → List ℕ → Type 0
-FootprintRefusal map marks =
+-- each refusal exactly when its test is the first that holds; it is 0 or a number of the footprint's list; "After a refusal every number is zero"
+abbrev pub FootprintAnswer : Map → List ℕ → Type 0
+FootprintAnswer map marks =
     AnswerPromise (λ (f : Footprint). f .refusal) (mapTests map marks) (acceptedFootprint map marks) refusedFootprint (footprintOf map marks)
 
 -- what is known of an input that isn't refused
@@ -56,7 +51,7 @@ SetBits map marks = footprintOf map marks .cells ≡ sumBelow (λ r. ones (getD 
 
 -- all of it, of every input
 pub record FootprintPromise (map : Map) (marks : List ℕ) : Type 0 where
-  pub refusal : FootprintRefusal map marks
+  pub answer : FootprintAnswer map marks
   pub accepted : footprintOf map marks .refusal ≡ 0 → AcceptedInput map marks
   pub ranges : footprintOf map marks .refusal ≡ 0 → FootprintRanges map marks
   pub worst : footprintOf map marks .refusal ≡ 0 → WorstCell map marks

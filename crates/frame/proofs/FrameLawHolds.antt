@@ -114,6 +114,8 @@ module _ (n : ℕ) (f : FrameFields) (b : List ℕ) where
 pub frame-law : FrameLaw
 frame-law =
     record {
+      frame-long = frame-long;
+      refusal-long = refusal-long;
       fields-shown = fields-shown;
       refusal-shown = refusal-shown;
       frame-back = frame-back;

@@ -1,7 +1,7 @@
 -- The printed frame of document 01.
 use Prim.Native.Nat.{ℕ}
 use mathlib.Core.Path.{_≡_}
-use mathlib.Core.Bool.{cond}
+use mathlib.Core.Bool.{Bool, cond}
 use mathlib.Core.List.{List, [], _∷_, _++_}
 use lib.Dec.{eqb, ltb}
 use lib.IntN.{ℤ, pos, negsuc}
@@ -40,8 +40,11 @@ unfoldable pub printed : ℕ → FrameFields → List ℕ
 printed refusal f = cond (eqb refusal 0) (frameLine f) (refusalLine refusal)
 
 -- "15 a buffer shorter than 41 bytes, for refused cases too"
+abbrev pub bufferTooShort : List ℕ → Bool
+bufferTooShort buffer = ltb (length buffer) frameLength
+
 abbrev pub writingTests : List ℕ → List Test
-writingTests buffer = 15 when ltb (length buffer) frameLength ∷ []
+writingTests buffer = 15 when bufferTooShort buffer ∷ []
 
 -- the buffer with a line at its start; "nothing written" where it is refused; "bytes after the last one written keep their content"
 unfoldable pub withLine : List ℕ → List ℕ → List ℕ

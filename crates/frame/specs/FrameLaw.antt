@@ -8,7 +8,7 @@ use lib.IntN.{ℤ, pos, negsuc}
 use lib.ListN.{length, drop}
 use Rattle.hex.specs.Digits.{field, isLine}
 use Rattle.frame.specs.Layout.{refusalWidth, areaWidth, columnWidth, flagWidth, rowWidth, placeWidth, peopleWidth, classWidth, refusalStart, lowStart, highStart, columnStart, flagStart, rowStart, placeStart, peopleStart, intrinsicStart, finalStart, frameLength}
-use Rattle.frame.specs.Frame.{frameLine, printed, framed}
+use Rattle.frame.specs.Frame.{frameLine, refusalLine, printed, framed}
 use Rattle.frame.specs.declared.FrameFields.{FrameFields}
 
 -- the final class that a byte stands for: ff is −1
@@ -56,6 +56,9 @@ pub record Shows (b : List ℕ) (f : FrameFields) : Type 0 where
   pub fields : fieldsIn b ≡ f
 
 pub record FrameLaw : Type 0 where
+  -- "40 digits and a line end"; "two digits and a line end"
+  pub frame-long : (f : FrameFields) → length (frameLine f) ≡ 41
+  pub refusal-long : (n : ℕ) → length (refusalLine n) ≡ 3
   -- a frame that was written shows its fields
   pub fields-shown : (f : FrameFields) (buffer : List ℕ) → frameLength ≤ length buffer → FrameFits f → Shows (framed 0 f buffer) f
   -- a refusal that was written shows its number

@@ -102,16 +102,16 @@ module _ (t : List ℕ) (lent : CaseBuffers) where
 
   -- ---- every answer
 
-  case-listed : OneOf (caseRefusal t lent) (0 ∷ caseRefusals)
+  case-listed : OneOf (caseRefusal t lent) (0 ∷ caseRefusals t lent)
   unfolding caseRefusal
   case-listed =
-      answered-one-of (readingTests t (lent .map)) _ (0 ∷ caseRefusals) refl
-      (one-of-more _ (0 ∷ assessmentRefusals) (0 ∷ caseRefusals) refl (assessment-promise (questionIn t) .listed))
+      answered-one-of (readingTests t (lent .map)) _ (0 ∷ caseRefusals t lent) refl
+      (one-of-more _ (0 ∷ assessmentRefusals (questionIn t)) (0 ∷ caseRefusals t lent) refl (assessment-promise (questionIn t) .listed))
 
   pub answer-shown : AnswerShown t lent
   answer-shown =
       record {
-        listed = unfold caseAnswer in answered-one-of (writingTests (lent .frame)) _ (0 ∷ caseRefusals) refl case-listed;
+        listed = unfold caseAnswer in answered-one-of (writingTests (lent .frame)) _ (0 ∷ caseRefusals t lent) refl case-listed;
         shown = λ long. by-test long (eqb (caseRefusal t lent) 0) refl;
       }
     where
@@ -125,7 +125,7 @@ module _ (t : List ℕ) (lent : CaseBuffers) where
       by-test long false e =
           ap refusalIn (left-is (le-ltb _ frameLength long) refl)
           ∙ frame-law .refusal-shown (caseRefusal t lent) (printedFields (assessmentOf (questionIn t))) (lent .frame) long (eqb-false _ 0 e)
-          (omega (arith, one-of-le 15 _ (0 ∷ caseRefusals) refl case-listed))
+          (omega (arith, one-of-le 255 _ (0 ∷ caseRefusals t lent) refl case-listed))
           ∙ sym (answer-is long)
 
 pub end-to-end : EndToEnd

@@ -107,9 +107,9 @@ p16-fits =
       cell-area = lit≤ tt;
       controlled = lit≤ tt;
       word = lit≤ tt;
-      marks-long = length-tabulate _ mapRows;
+      marks-length = length-tabulate _ mapRows;
       mark = λ k l. omega (arith, only-le (2 ^ 63) mapRows k l);
-      counts-long = length-tabulate _ mapCells;
+      counts-length = length-tabulate _ mapCells;
       count = λ k l. omega (arith, only-le 8 mapCells k l);
     }
 

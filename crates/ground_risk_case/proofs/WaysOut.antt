@@ -55,7 +55,7 @@ module _ (text : List ℕ) (lent : CaseBuffers) where
         promise = reading-promise text (lent .map) read
 
         assessed : a ≡ assessmentOf (questionIn text)
-        assessed = e ∙ unfold questionIn in simp (promise .refusal .if-accepted h, promise .filled h)
+        assessed = e ∙ unfold questionIn in simp (promise .answer .if-accepted h, promise .filled h)
 
         refused : a .refusal ≡ caseRefusal text lent
         refused =

@@ -12,12 +12,12 @@ use Rattle.arithmetic.proofs.RefusalLaws.{first-exactly-when}
 use Rattle.arithmetic.proofs.TestLaws.{neither, inside, any-none}
 use Rattle.map.specs.Size.{mapCells, mapRows}
 use Rattle.map.specs.Map.{largestCount, leastArea, largestArea, wrongArea, Map, countAt, cellsIn}
-use Rattle.map.specs.Refusals.{wrongCountsLength, wrongMarksLength, wrongCount, mapTests}
+use Rattle.map.specs.Refusals.{wrongCountsLength, wrongMarksLength, wrongLengths, wrongCount, mapTests}
 
 pub counts-length : (counts : List ℕ) → wrongCountsLength counts ≡ false → length counts ≡ mapCells
 counts-length counts e = eqb-true (length counts) mapCells (not-false _ e)
 
-pub lengths : (counts marks : List ℕ) → (wrongCountsLength counts || wrongMarksLength marks) ≡ false → (length counts ≡ mapCells) × (length marks ≡ mapRows)
+pub lengths : (counts marks : List ℕ) → wrongLengths counts marks ≡ false → (length counts ≡ mapCells) × (length marks ≡ mapRows)
 lengths counts marks h =
     let p = neither (wrongCountsLength counts) (wrongMarksLength marks) h in
     (counts-length counts (p .0), eqb-true (length marks) mapRows (not-false _ (p .1)))

@@ -40,6 +40,7 @@ bitAt bits column = bits / 2 ^ (63 - column) % 2
 abbrev pub markAt : List ℕ → ℕ → ℕ
 markAt marks place = bitAt (getD marks (place / mapColumns) 0) (place % mapColumns)
 
+-- "a set bit marks a cell as flown over"
 abbrev pub marked : List ℕ → ℕ → Bool
 marked marks place = eqb (markAt marks place) 1
 

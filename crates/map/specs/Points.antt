@@ -1,7 +1,8 @@
--- The cases P9 to P11 of document 01.
+-- The cases P9 to P11 of document 01, and the empty cell.
 use mathlib.Core.Path.{_≡_}
 use mathlib.Core.List.{List, [], _∷_}
-use Prim.Native.Nat.{ℕ}
+use Prim.Native.Nat.{ℕ, _≤_}
+use Rattle.map.specs.Map.{leastArea}
 use Rattle.map.specs.TableRow.{tableRow}
 
 pub record RowPoint : Type 0 where
@@ -22,3 +23,7 @@ rowPoints =
 
 abbrev pub RowPointHolds : RowPoint → Type 0
 RowPointHolds p = tableRow (p .people) (p .area) ≡ p .row
+
+-- "An empty cell is row 2."
+abbrev pub EmptyCell : Type 0
+EmptyCell = (area : ℕ) → leastArea ≤ area → tableRow 0 area ≡ 2

@@ -16,6 +16,9 @@ wrongCountsLength counts = not (eqb (length counts) mapCells)
 abbrev pub wrongMarksLength : List ℕ → Bool
 wrongMarksLength marks = not (eqb (length marks) mapRows)
 
+abbrev pub wrongLengths : List ℕ → List ℕ → Bool
+wrongLengths counts marks = wrongCountsLength counts || wrongMarksLength marks
+
 -- "7 any count, marked or not, above 1,000,000"
 abbrev pub aboveRange : List ℕ → ℕ → Bool
 aboveRange counts place = ltb largestCount (countAt counts place)
@@ -30,7 +33,7 @@ noMark marks = eqb (cellsIn marks) 0
 -- "Footprint refusals", in the order tested
 abbrev pub mapTests : Map → List ℕ → List Test
 mapTests map marks =
-    5 when (wrongCountsLength (map .counts) || wrongMarksLength marks)
+    5 when wrongLengths (map .counts) marks
     ∷ 6 when wrongArea (map .cell-area)
     ∷ 7 when wrongCount (map .counts)
     ∷ 8 when noMark marks

@@ -12,6 +12,7 @@ use Rattle.risk_class.specs.declared.class_table.IntrinsicClass.{Intrins
 abbrev pub noClass : ℕ
 noClass = 0
 
+-- columns 1 to 5 and rows 1 to 7
 abbrev pub columns : ℕ
 columns = 5
 
@@ -30,6 +31,7 @@ classTable =
     ∷ (7 ∷ 8 ∷ noClass ∷ noClass ∷ noClass ∷ [])
     ∷ []
 
+-- the entry of a row and a column, both counted from 1
 unfoldable pub classAt : ℕ → ℕ → ℕ
 classAt row column = getD (getD classTable (row - 1) []) (column - 1) noClass
 

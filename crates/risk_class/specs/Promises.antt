@@ -10,7 +10,7 @@ use Rattle.risk_class.specs.Mitigation.{isEntry, finalClass, mitigationT
 use Rattle.risk_class.specs.declared.class_table.IntrinsicClass.{IntrinsicClass}
 use Rattle.risk_class.specs.declared.mitigation.FinalClass.{FinalClass}
 
--- each refusal exactly when its test is the first that holds, and then the class is zero (demand 1); a class that is given is 1 to 10 and an entry of
+-- each refusal exactly when its test is the first that holds, and then "every number is zero" (demand 1); a class that is given is 1 to 10 and an entry of
 -- its column
 pub record IntrinsicPromise (column row controlled : ℕ) : Type 0 where
   pub answer : AnswerPromise (λ (a : IntrinsicClass). a .refusal) (classTests column row controlled) (acceptedClass (classAt (usedRow row controlled) column))

@@ -16,12 +16,6 @@ module _ (w m v : ℕ) where
   refused-exactly-when =
       let exactly = sheet-promise .exactly-when in
       record {
-        one = exactly 1;
-        two = exactly 2;
-        three = (
-          λ e. use-of (sheetTests w m v) 3 (exactly 3 .0 e) (λ d k s. (d, k, ltb-true _ _ s)),
-          λ h. exactly 3 .1 (h .0, (h .1, lt-ltb _ _ (h .2))),
-        );
         four = (
           λ e. use-of (sheetTests w m v) 4 (exactly 4 .0 e) (λ d k s a. (within w m v d k s, ltb-true _ _ a)),
           λ h. let k = tests-fail w m v (h .0) in exactly 4 .1 (k .0, (k .1, (k .2, lt-ltb _ _ (h .1)))),

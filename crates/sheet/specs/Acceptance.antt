@@ -15,11 +15,7 @@ abbrev pub SheetPromise : ℕ → ℕ → ℕ → Type 0
 SheetPromise w m v =
     AnswerPromise (λ (a : SheetAnswer). a .refusal) (sheetTests w m v) (acceptedSheet (linesOf w m v)) refusedSheet (sheetOf w m v)
 
--- the same, number by number, in the papers' inequalities
+-- the same of refusal 4 and of none, by the ranges
 pub record RefusedExactlyWhen (w m v : ℕ) : Type 0 where
-  pub one : sheetOf w m v .refusal ≡ 1 ↔ outside dimensionMin dimensionMax w ≡ true
-  pub two : sheetOf w m v .refusal ≡ 2 ↔ (outside dimensionMin dimensionMax w ≡ false) × (outside massMin massMax m ≡ true)
-  pub three : sheetOf w m v .refusal ≡ 3
-      ↔ (outside dimensionMin dimensionMax w ≡ false) × (outside massMin massMax m ≡ false) × (speedMax < v)
   pub four : sheetOf w m v .refusal ≡ 4 ↔ InRange w m v × (lastLimit < linesOf w m v .area .high)
   pub none : sheetOf w m v .refusal ≡ 0 ↔ InRange w m v × (linesOf w m v .area .high ≤ lastLimit)

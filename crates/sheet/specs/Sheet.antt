@@ -1,4 +1,5 @@
 -- The sheet and its refusals.
+use mathlib.Core.Bool.{Bool}
 use mathlib.Core.List.{List, [], _∷_, _++_}
 use Prim.Native.Nat.{ℕ}
 use lib.Dec.{ltb}
@@ -54,20 +55,33 @@ abbrev pub acceptedSheet : Sheet → SheetAnswer
 acceptedSheet s = record { refusal = 0; sheet = s }
 
 -- "1 dimension outside its range; 2 mass; 3 speed"
+abbrev pub wrongDimension : ℕ → Bool
+wrongDimension w = outside dimensionMin dimensionMax w
+
+abbrev pub wrongMass : ℕ → Bool
+wrongMass m = outside massMin massMax m
+
+abbrev pub wrongSpeed : ℕ → Bool
+wrongSpeed v = ltb speedMax v
+
 abbrev pub rangeTests : ℕ → ℕ → ℕ → List Test
 rangeTests w m v =
-    1 when outside dimensionMin dimensionMax w
-    ∷ 2 when outside massMin massMax m
-    ∷ 3 when ltb speedMax v
+    1 when wrongDimension w
+    ∷ 2 when wrongMass m
+    ∷ 3 when wrongSpeed v
     ∷ []
 
 -- "4 high area above 650,000,000"
+abbrev pub areaTooLarge : Sheet → Bool
+areaTooLarge s = ltb lastLimit (s .area .high)
+
 abbrev pub areaTests : Sheet → List Test
-areaTests s = 4 when ltb lastLimit (s .area .high) ∷ []
+areaTests s = 4 when areaTooLarge s ∷ []
 
 -- "Tested in that order"
 abbrev pub sheetTests : ℕ → ℕ → ℕ → List Test
 sheetTests w m v = rangeTests w m v ++ areaTests (linesOf w m v)
 
+-- the sheet of an aircraft, or its refusal
 unfoldable pub sheetOf : ℕ → ℕ → ℕ → SheetAnswer
 sheetOf w m v = answered (sheetTests w m v) (acceptedSheet (linesOf w m v)) refusedSheet

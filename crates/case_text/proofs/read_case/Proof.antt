@@ -36,13 +36,13 @@ returns c =
     reading-refused _ _ (refused .before .reading-refusal .ensures) (λ zero. omega (arith, refused .if1 .taken)) (c .no-head .ensures)
 
 fill-counts-requires : tie.Need-fill-counts-requires
-fill-counts-requires c κs = let accepted = accepted-in (c .before) in (accepted .text-long, accepted .buffers .counts)
+fill-counts-requires c κs = let accepted = accepted-in (c .before) in (accepted .text-long, accepted .buffers .counts-length)
 
 fill-marks-requires : tie.Need-fill-marks-requires
 fill-marks-requires c κs =
     let after-counts = c .before .before .before in
     let accepted = accepted-in (after-counts .before .before) in
-    (accepted .text-long, accepted .buffers .marks)
+    (accepted .text-long, accepted .buffers .marks-length)
 
 head-of-requires : tie.Need-head-of-requires
 head-of-requires c κs =
