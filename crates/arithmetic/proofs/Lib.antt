@@ -8,3 +8,4 @@ pub mod PartLaws
 pub mod EachLaws
 pub mod OrLaws
 pub mod RefusalLaws
+pub mod RefusalsHold

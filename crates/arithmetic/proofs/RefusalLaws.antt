@@ -7,7 +7,7 @@ use Prim.Native.Nat.{ℕ, _≤_}
 use native.Mathlib.Omega.{arith}
 use borrow.Author.Tests.{eqb-true, eqb-false, eq-eqb, ne-eqb, not-true, leb-true}
 use lib.Dec.{eqb, leb}
-use Rattle.arithmetic.specs.Refusals.{Test, answered, firstRefusal, numbers, FirstToHold, OneOf, AnswerPromise}
+use Rattle.arithmetic.specs.Refusals.{Test, answered, firstRefusal, numbers, FirstToHold, OneOf}
 use Rattle.arithmetic.proofs.TestLaws.{both}
 
 -- ---- numbers that tell the tests apart
@@ -146,7 +146,7 @@ one-of-le most n (k ∷ ks) e h =
 
 module _ {A : Type 0} (accepted : A) (refused : ℕ → A) where
   -- the answer by its number
-  by-number : (ts : List Test) → distinct ts ≡ true
+  pub by-number : (ts : List Test) → distinct ts ≡ true
       → cond (eqb (firstRefusal ts) 0) accepted (refused (firstRefusal ts)) ≡ answered ts accepted refused
   by-number [] d = refl
   by-number (t ∷ ts) d =
@@ -173,27 +173,6 @@ module _ {A : Type 0} (accepted : A) (refused : ℕ → A) where
   answered-after : (ts us : List Test) → answered ts (answered us accepted refused) refused ≡ answered (ts ++ us) accepted refused
   answered-after [] us = refl
   answered-after (t ∷ ts) us = ap (λ (a : A). cond (t .holds) (refused (t .number)) a) (answered-after ts us)
-
-  module _ (refusal : A → ℕ) (accepted-0 : refusal accepted ≡ 0) (refused-n : (n : ℕ) → refusal (refused n) ≡ n) where
-    number-is : (ts : List Test) → refusal (answered ts accepted refused) ≡ firstRefusal ts
-    number-is [] = accepted-0
-    number-is (t ∷ ts) = by-test (t .holds) (number-is ts)
-      where
-        by-test : (b : Bool) → refusal (answered ts accepted refused) ≡ firstRefusal ts
-            → refusal (cond b (refused (t .number)) (answered ts accepted refused)) ≡ cond b (t .number) (firstRefusal ts)
-        by-test true rest = refused-n (t .number)
-        by-test false rest = rest
-
-    pub answer-promise : (ts : List Test) → distinct ts ≡ true → AnswerPromise refusal ts accepted refused (answered ts accepted refused)
-    answer-promise ts d =
-        let e = number-is ts in
-        let whole = by-number ts d in
-        record {
-          exactly-when = λ n. (λ k. first-exactly-when ts d n .0 (sym e ∙ k), λ k. e ∙ first-exactly-when ts d n .1 k);
-          listed = rw e (first-listed ts);
-          if-accepted = λ z. sym whole ∙ simp (eq-eqb _ _ (sym e ∙ z));
-          if-refused = λ z. sym whole ∙ simp (ne-eqb _ _ (λ k. z (e ∙ k)), e);
-        }
 
 -- a number that comes after tests is 0 where no test holds and it is 0 itself
 pub none-refused : (ts : List Test) → distinct ts ≡ true → (n : ℕ) → answered ts n (λ m. m) ≡ 0 → FirstToHold ts 0 × (n ≡ 0)

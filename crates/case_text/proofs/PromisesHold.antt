@@ -3,7 +3,8 @@ use mathlib.Core.Path.{_≡_, refl, sym, ap, _∙_}
 use mathlib.Core.List.{List}
 use Prim.Native.Nat.{ℕ}
 use Rattle.arithmetic.specs.Refusals.{AnswerPromise}
-use Rattle.arithmetic.proofs.RefusalLaws.{first-exactly-when, answer-promise, refused-by, accepted-by}
+use Rattle.arithmetic.proofs.RefusalLaws.{first-exactly-when, refused-by, accepted-by}
+use Rattle.arithmetic.proofs.RefusalsHold.{answer-promise}
 use Rattle.case_text.specs.Text.{MapBuffers, mapBuffersOf, readingTests, readingRefusal, acceptedReading, refusedReading, readingOf, mapBuffersLeft, ReadingContract}
 use Rattle.case_text.specs.Promises.{ReadingPromise}
 use Rattle.case_text.specs.declared.Reading.{Reading}

@@ -2,13 +2,13 @@
 use crate::CaseHead;
 use crate::layout::CELL_AREA;
 use crate::layout::CONTROLLED;
-use crate::layout::COUNT_DIGITS;
 use crate::layout::COUNT_LINE;
-use crate::layout::COUNTS;
+use crate::layout::COUNT_LINE_DIGITS;
+use crate::layout::COUNTS_START;
 use crate::layout::DIMENSION;
 use crate::layout::HEAD_DIGITS;
 use crate::layout::MARK_LINE;
-use crate::layout::MARKS;
+use crate::layout::MARKS_START;
 use crate::layout::MASS;
 use crate::layout::SPEED;
 use crate::layout::WORD;
@@ -77,7 +77,7 @@ pub(crate) fn fill_marks(text: &[u8], marks: &mut [u64])
 {
     let mut k = 0;
     while k < MAP_ROWS {
-        marks[k] = mark_at(text, MARKS + MARK_LINE * k);
+        marks[k] = mark_at(text, MARKS_START + MARK_LINE * k);
         k += 1;
     }
 }
@@ -122,10 +122,10 @@ pub(crate) fn fill_counts(text: &[u8], counts: &mut [u32])
 {
     let mut r = 0;
     while r < MAP_ROWS {
-        let at = COUNTS + COUNT_LINE * r;
+        let at = COUNTS_START + COUNT_LINE * r;
         let to = MAP_COLUMNS * r;
         fill_row(
-            &text[at..at + COUNT_DIGITS],
+            &text[at..at + COUNT_LINE_DIGITS],
             &mut counts[to..to + MAP_COLUMNS],
         );
         r += 1;

@@ -40,15 +40,15 @@ pub(crate) const MARK_LINE: usize = MARK_WIDTH + 1;
 // A line of counts: the digits of a count, of the line, and with its line end.
 const COUNT_WIDTH: usize = 8;
 
-pub(crate) const COUNT_DIGITS: usize = COUNT_WIDTH * MAP_COLUMNS;
+pub(crate) const COUNT_LINE_DIGITS: usize = COUNT_WIDTH * MAP_COLUMNS;
 
-pub(crate) const COUNT_LINE: usize = COUNT_DIGITS + 1;
+pub(crate) const COUNT_LINE: usize = COUNT_LINE_DIGITS + 1;
 
 // Where line 1 starts, the footprint's lines and the counts' lines, and how long the text is.
-pub(crate) const HEAD: usize = 0;
+pub(crate) const HEAD_START: usize = 0;
 
-pub(crate) const MARKS: usize = HEAD + HEAD_LINE;
+pub(crate) const MARKS_START: usize = HEAD_START + HEAD_LINE;
 
-pub(crate) const COUNTS: usize = MARKS + MARK_LINE * MAP_ROWS;
+pub(crate) const COUNTS_START: usize = MARKS_START + MARK_LINE * MAP_ROWS;
 
-pub(crate) const TEXT: usize = COUNTS + COUNT_LINE * MAP_ROWS;
+pub(crate) const TEXT_LENGTH: usize = COUNTS_START + COUNT_LINE * MAP_ROWS;

@@ -11,7 +11,7 @@ ghost use mathlib.Core.Path.{_≡_};
 ghost use Rattle.case_text.specs.Text.{noHead, ReadingContract};
 
 // How long a text is, and how many counts and footprint rows it has.
-pub const TEXT_LENGTH: usize = layout::TEXT;
+pub const TEXT_LENGTH: usize = layout::TEXT_LENGTH;
 
 pub const COUNTS_LENGTH: usize = map::MAP_CELLS;
 

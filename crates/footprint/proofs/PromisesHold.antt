@@ -9,7 +9,7 @@ use borrow.Author.Tests.{lt-ltb}
 use lib.ListN.{getD}
 use Rattle.arithmetic.specs.SumsAndMaxima.{maxBelow}
 use Rattle.arithmetic.specs.PrivateFirstMaximum.{firstMaxBelow}
-use Rattle.arithmetic.proofs.RefusalLaws.{answer-promise}
+use Rattle.arithmetic.proofs.RefusalsHold.{answer-promise}
 use Rattle.arithmetic.proofs.SumLaws.{sum-le, sum-mono, max-mono, le-max, first-lt, first-at, first-before}
 use Rattle.map.specs.Size.{mapCells, mapRows}
 use Rattle.map.specs.Map.{largestCount, Map, countAt, markAt}

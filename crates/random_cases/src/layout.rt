@@ -11,20 +11,27 @@ pub(crate) const COLUMNS: u64 = CELLS / ROWS;
 
 pub(crate) const LAST_ROW: u64 = ROWS - 1;
 
-// Line 1: where each field starts, and after the last one its line end.
+// Line 1: the digits of each field.
+const NUMBER_WIDTH: u64 = 8;
+
+const MARK_WIDTH: u64 = 2;
+
+const WORD_WIDTH: u64 = 4;
+
+// Where each field starts, and after the last one its line end.
 pub(crate) const DIMENSION: u64 = 0;
 
-pub(crate) const MASS: u64 = DIMENSION + 8;
+pub(crate) const MASS: u64 = DIMENSION + NUMBER_WIDTH;
 
-pub(crate) const SPEED: u64 = MASS + 8;
+pub(crate) const SPEED: u64 = MASS + NUMBER_WIDTH;
 
-pub(crate) const CELL_AREA: u64 = SPEED + 8;
+pub(crate) const CELL_AREA: u64 = SPEED + NUMBER_WIDTH;
 
-pub(crate) const MARK: u64 = CELL_AREA + 8;
+pub(crate) const MARK: u64 = CELL_AREA + NUMBER_WIDTH;
 
-pub(crate) const WORD: u64 = MARK + 2;
+pub(crate) const WORD: u64 = MARK + MARK_WIDTH;
 
-pub(crate) const HEAD_END: u64 = WORD + 4;
+pub(crate) const HEAD_END: u64 = WORD + WORD_WIDTH;
 
 // The lines of the footprint: where the first starts, the digits of one, and how long it is with its line end.
 const FOOTPRINT: u64 = HEAD_END + 1;
@@ -38,9 +45,9 @@ const COUNTS: u64 = FOOTPRINT + FOOTPRINT_LINE * ROWS;
 
 pub(crate) const COUNT_WIDTH: u64 = 8;
 
-pub(crate) const COUNT_DIGITS: u64 = COUNT_WIDTH * COLUMNS;
+pub(crate) const COUNT_LINE_DIGITS: u64 = COUNT_WIDTH * COLUMNS;
 
-const COUNT_LINE: u64 = COUNT_DIGITS + 1;
+const COUNT_LINE: u64 = COUNT_LINE_DIGITS + 1;
 
 // Where the text ends, and the buffer for a text and one byte more.
 pub(crate) const TEXT_END: u64 = case_text::TEXT_LENGTH as u64;

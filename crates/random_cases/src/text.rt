@@ -2,7 +2,7 @@
 use crate::layout::CELL_AREA;
 use crate::layout::CELLS;
 use crate::layout::COLUMNS;
-use crate::layout::COUNT_DIGITS;
+use crate::layout::COUNT_LINE_DIGITS;
 use crate::layout::COUNT_WIDTH;
 use crate::layout::DIMENSION;
 use crate::layout::FOOTPRINT_DIGITS;
@@ -149,7 +149,7 @@ fn write_count_line_ends(text: &mut [u8])
 {
     let mut row = 0;
     while row < ROWS {
-        write_byte(text, count_place(row, COUNT_DIGITS), LINE_END);
+        write_byte(text, count_place(row, COUNT_LINE_DIGITS), LINE_END);
         row += 1;
     }
 }

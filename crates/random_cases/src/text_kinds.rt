@@ -1,6 +1,6 @@
 // Kinds 14 to 18 and 21: damaged texts, and lengths.
 use crate::layout::CELLS;
-use crate::layout::COUNT_DIGITS;
+use crate::layout::COUNT_LINE_DIGITS;
 use crate::layout::FOOTPRINT_DIGITS;
 use crate::layout::HEAD_END;
 use crate::layout::LAST_ROW;
@@ -52,7 +52,7 @@ fn draw_digit_place(s: u32, turn: u64) -> Draw {
             next: digit.next,
         }
     } else {
-        let digit = below(row.next, COUNT_DIGITS);
+        let digit = below(row.next, COUNT_LINE_DIGITS);
         Draw {
             value: count_place(row.value, digit.value),
             next: digit.next,
@@ -79,9 +79,9 @@ fn line_end(turn: u64, row: u64) -> u64
     } else if turn == 1 {
         footprint_place(row, FOOTPRINT_DIGITS)
     } else if turn == 2 {
-        count_place(row, COUNT_DIGITS)
+        count_place(row, COUNT_LINE_DIGITS)
     } else {
-        count_place(LAST_ROW, COUNT_DIGITS)
+        count_place(LAST_ROW, COUNT_LINE_DIGITS)
     }
 }
 

@@ -10,7 +10,7 @@ use lib.Dec.{T, ltb, eqb}
 use lib.IntN.{ℤ, pos, negsuc, subℕ}
 use lib.Signed.{ltZ, leZ, _≤ℤ_}
 use Rattle.arithmetic.specs.Refusals.{FirstToHold, AnswerPromise}
-use Rattle.arithmetic.proofs.RefusalLaws.{answer-promise}
+use Rattle.arithmetic.proofs.RefusalsHold.{answer-promise}
 use Rattle.arithmetic.proofs.TestLaws.{lt-or-le, neither, inside, any-is}
 use Rattle.risk_class.specs.ClassTable.{noClass, classAt, usedRow, wrongColumn, outsideTable, entryIsNone, classTests, refusedClass, acceptedClass, intrinsicClassOf}
 use Rattle.risk_class.specs.Mitigation.{creditOf, anyNotOffered, isEntry, noEntry, afterM1, finalClass, finalTooHigh, mitigationTests, refusedFinal, acceptedFinal, finalClassOf}

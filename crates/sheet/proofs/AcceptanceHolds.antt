@@ -2,7 +2,8 @@
 use mathlib.Core.Path.{refl}
 use Prim.Native.Nat.{ℕ}
 use borrow.Author.Tests.{ltb-true, ltb-false, lt-ltb, le-ltb}
-use Rattle.arithmetic.proofs.RefusalLaws.{answer-promise, use-of}
+use Rattle.arithmetic.proofs.RefusalLaws.{use-of}
+use Rattle.arithmetic.proofs.RefusalsHold.{answer-promise}
 use Rattle.sheet.specs.Sheet.{sheetTests, sheetOf}
 use Rattle.sheet.specs.Acceptance.{RefusedExactlyWhen, SheetPromise}
 use Rattle.sheet.proofs.RangeLaws.{within, tests-fail}
