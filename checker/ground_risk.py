@@ -202,7 +202,7 @@ def sheet(w, m, v):
     t = t_line(w, glide, slide)
     area = area_line(w, glide, t)
     # "4 high area above 650,000,000."
-    if area.high > 650_000_000:
+    if area.high > AREA_LIMITS[-1]:
         return refused_sheet(4)
     # "The column is the first whose area limit is at least the high area"
     column = first_column(area.high)
@@ -403,7 +403,7 @@ class Assessment(NamedTuple):
 
 
 def refused_assessment(refusal):
-    # Demand 1: "after a refusal every number is zero"
+    # Demand 1: "After a refusal every number is zero"
     return Assessment(refusal, refused_sheet(0), Footprint(0, *NO_FOOTPRINT), 0, 0, 0)
 
 

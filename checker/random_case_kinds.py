@@ -169,7 +169,7 @@ def kinds_of(case):
     if refusal != 0:
         return names
 
-    # From here on a frame of 40 digits was printed.
+    # From here on a frame was printed.
     answer = g.assessment_of(fields, reading.lent)
     sheet, ground = answer.sheet, answer.footprint
     names.append(f"printed, column {sheet.column}")
