@@ -42,8 +42,8 @@ module _ (map : Map) (marks : List ℕ) (ok : footprintOf map marks .refusal ≡
   accepted = record {
     counts-length = known .counts-length;
     marks-length = known .marks-length;
-    area-ge = known .area-ge;
-    area-le = known .area-le;
+    area-ge = λ p. known .area-ge;
+    area-le = λ p. known .area-le;
     counts-le = counts-small (map .counts) (known .counts-in);
     answer = found-is;
   }
@@ -136,4 +136,4 @@ monotone map marks map′ marks′ ok ok′ n =
     row-at-le : (p : ℕ) → p < mapCells → rowAt map p ≤ rowAt map′ p
     row-at-le p l =
         le-trans (row-mono (map .cell-area) (countAt (map .counts) p) (countAt (map′ .counts) p) (n .counts-le p l))
-        (le-of-eq (ap (tableRow (countAt (map′ .counts) p)) (n .same-area)))
+        (le-of-eq (ap (tableRow (countAt (map′ .counts) p)) (n .same-area p)))

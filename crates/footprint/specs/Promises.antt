@@ -7,7 +7,7 @@ use lib.ListN.{length, getD}
 use Rattle.arithmetic.specs.Refusals.{AnswerPromise}
 use Rattle.arithmetic.specs.SumsAndMaxima.{sumBelow}
 use Rattle.map.specs.Size.{mapCells, mapRows}
-use Rattle.map.specs.Map.{largestCount, leastArea, largestArea, Map, countAt, markAt}
+use Rattle.map.specs.Map.{largestCount, leastArea, largestArea, Map, countAt, markAt, areaAt}
 use Rattle.map.specs.TableRow.{rowAt}
 use Rattle.map.specs.Refusals.{mapTests}
 use Rattle.footprint.specs.Footprint.{refusedFootprint, acceptedFootprint, footprintOf}
@@ -22,8 +22,8 @@ FootprintAnswer map marks =
 pub record AcceptedInput (map : Map) (marks : List ℕ) : Type 0 where
   pub counts-length : length (map .counts) ≡ mapCells
   pub marks-length : length marks ≡ mapRows
-  pub area-ge : leastArea ≤ map .cell-area
-  pub area-le : map .cell-area ≤ largestArea
+  pub area-ge : (p : ℕ) → leastArea ≤ areaAt map p
+  pub area-le : (p : ℕ) → areaAt map p ≤ largestArea
   pub counts-le : (p : ℕ) → p < mapCells → countAt (map .counts) p ≤ largestCount
   pub answer : footprintOf map marks ≡ acceptedFootprint map marks
 
@@ -60,7 +60,7 @@ pub record FootprintPromise (map : Map) (marks : List ℕ) : Type 0 where
 
 -- the cells have the same area, no count is lowered and no mark is taken away
 pub record NoLess (map : Map) (marks : List ℕ) (map′ : Map) (marks′ : List ℕ) : Type 0 where
-  pub same-area : map .cell-area ≡ map′ .cell-area
+  pub same-area : (p : ℕ) → areaAt map p ≡ areaAt map′ p
   pub counts-le : (p : ℕ) → p < mapCells → countAt (map .counts) p ≤ countAt (map′ .counts) p
   pub marks-le : (p : ℕ) → p < mapCells → markAt marks p ≤ markAt marks′ p
 

@@ -19,7 +19,7 @@ leastArea = 100
 abbrev pub largestArea : ℕ
 largestArea = 25000000
 
--- "6 cell area out of range"
+-- out of that range
 abbrev pub wrongArea : ℕ → Bool
 wrongArea area = outside leastArea largestArea area
 

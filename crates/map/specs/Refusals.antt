@@ -19,6 +19,10 @@ wrongMarksLength marks = not (eqb (length marks) mapRows)
 abbrev pub wrongLengths : List ℕ → List ℕ → Bool
 wrongLengths counts marks = wrongCountsLength counts || wrongMarksLength marks
 
+-- "6 cell area out of range"
+abbrev pub wrongCellArea : Map → Bool
+wrongCellArea map = wrongArea (map .cell-area)
+
 -- "7 any count, marked or not, above 1,000,000"
 abbrev pub aboveRange : List ℕ → ℕ → Bool
 aboveRange counts place = ltb largestCount (countAt counts place)
@@ -34,7 +38,7 @@ noMark marks = eqb (cellsIn marks) 0
 abbrev pub mapTests : Map → List ℕ → List Test
 mapTests map marks =
     5 when wrongLengths (map .counts) marks
-    ∷ 6 when wrongArea (map .cell-area)
+    ∷ 6 when wrongCellArea map
     ∷ 7 when wrongCount (map .counts)
     ∷ 8 when noMark marks
     ∷ []

@@ -7,6 +7,16 @@ use borrow.Author.Needs.{needs}
 use Rattle.assessment.proofs.assess.Statement.{statement}
 use Rattle.assessment.proofs.assess.Tie as tie
 
+-- ---- places: after each call, from the next one's
+abbrev sheet-known : tie.After-footprint-on-map → tie.After-sheet-of
+sheet-known c = c .before .before .before
+
+abbrev footprint-known : tie.After-intrinsic-class → tie.After-footprint-on-map
+footprint-known c = c .before .before .before .before
+
+abbrev class-known : tie.After-final-class → tie.After-intrinsic-class
+class-known c = c .before .before .before
+
 sheet-of-requires : tie.Need-sheet-of-requires
 sheet-of-requires c κs = search needs
 
@@ -27,7 +37,7 @@ refused-with-requires-2 c κs = search needs
 returns-2 : tie.Need-returns-2
 returns-2 c =
     let f = c .before .before .before
-    in let s = f .before .before .before
+    in let s = sheet-known f
     in c .refused-with2 .ensures ∙ ended-by-footprint _ (s .sheet-of .ensures) (f .before .if1 .left) (f .footprint-on-map .ensures) (c .before .if2 .taken)
 
 intrinsic-class-requires : tie.Need-intrinsic-class-requires
@@ -39,8 +49,8 @@ refused-with-requires-3 c κs = search needs
 returns-3 : tie.Need-returns-3
 returns-3 c =
     let i = c .before .before .before
-    in let f = i .before .before .before .before
-    in let s = f .before .before .before
+    in let f = footprint-known i
+    in let s = sheet-known f
     in c .refused-with3 .ensures ∙ ended-by-class _ (s .sheet-of .ensures) (f .before .if1 .left) (f .footprint-on-map .ensures) (i .before .before .if2 .left) (i .intrinsic-class .ensures) (c .before .if3 .taken)
 
 final-class-requires : tie.Need-final-class-requires
@@ -52,9 +62,9 @@ refused-with-requires-4 c κs = search needs
 returns-4 : tie.Need-returns-4
 returns-4 c =
     let k = c .before .before .before
-    in let i = k .before .before .before
-    in let f = i .before .before .before .before
-    in let s = f .before .before .before
+    in let i = class-known k
+    in let f = footprint-known i
+    in let s = sheet-known f
     in c .refused-with4 .ensures ∙ ended-by-mitigation _ (s .sheet-of .ensures) (f .before .if1 .left) (f .footprint-on-map .ensures) (i .before .before .if2 .left) (i .intrinsic-class .ensures) (k .before .if3 .left) (k .final-class .ensures) (c .before .if4 .taken)
 
 used-row-requires : tie.Need-used-row-requires
@@ -63,9 +73,9 @@ used-row-requires c κs = search needs
 returns-5 : tie.Need-returns-5
 returns-5 c =
     let k = c .before .before .before .before
-    in let i = k .before .before .before
-    in let f = i .before .before .before .before
-    in let s = f .before .before .before
+    in let i = class-known k
+    in let f = footprint-known i
+    in let s = sheet-known f
     in not-refused _ (s .sheet-of .ensures) (f .before .if1 .left) (f .footprint-on-map .ensures) (i .before .before .if2 .left) (i .intrinsic-class .ensures) (k .before .if3 .left) (k .final-class .ensures) (c .before .used-row .ensures) (toZ-ofZ w8 (k .final-class .result .class) (search)) (c .before .before .if4 .left)
 
 pub assess-spec : {M : Type 1} → statement M
