@@ -7,20 +7,10 @@ use Prim.Native.Nat.{ℕ, _≤_}
 use native.Mathlib.Omega.{arith}
 use borrow.Author.Tests.{eqb-true, eqb-false, eq-eqb, ne-eqb, not-true, leb-true}
 use lib.Dec.{eqb, leb}
-use Rattle.arithmetic.specs.Refusals.{Test, answered, firstRefusal, numbers, FirstToHold, OneOf}
+use Rattle.arithmetic.specs.Refusals.{Test, answered, firstRefusal, numbers, FirstToHold, OneOf, fresh, distinct}
 use Rattle.arithmetic.proofs.TestLaws.{both}
 
 -- ---- numbers that tell the tests apart
-
--- n isn't 0, and no test has it
-abbrev fresh : ℕ → List Test → Bool
-fresh n [] = not (eqb n 0)
-fresh n (t ∷ ts) = not (eqb (t .number) n) && fresh n ts
-
--- no number is 0, and no two are equal
-abbrev pub distinct : List Test → Bool
-distinct [] = true
-distinct (t ∷ ts) = fresh (t .number) ts && distinct ts
 
 -- a number that no test has doesn't come
 fresh-never : (ts : List Test) (n : ℕ) → fresh n ts ≡ true → firstRefusal ts ≡ n → ⊥

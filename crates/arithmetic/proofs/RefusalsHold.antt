@@ -4,8 +4,8 @@ use mathlib.Core.Bool.{Bool, true, false, cond}
 use mathlib.Core.List.{List, [], _∷_}
 use Prim.Native.Nat.{ℕ}
 use borrow.Author.Tests.{eq-eqb, ne-eqb}
-use Rattle.arithmetic.specs.Refusals.{Test, answered, firstRefusal, AnswerPromise}
-use Rattle.arithmetic.proofs.RefusalLaws.{distinct, first-exactly-when, first-listed, by-number}
+use Rattle.arithmetic.specs.Refusals.{Test, answered, firstRefusal, distinct, AnswerPromise}
+use Rattle.arithmetic.proofs.RefusalLaws.{first-exactly-when, first-listed, by-number}
 
 module _ {A : Type 0} (accepted : A) (refused : ℕ → A) (refusal : A → ℕ) (accepted-0 : refusal accepted ≡ 0) (refused-n : (n : ℕ) → refusal (refused n) ≡ n) where
   number-is : (ts : List Test) → refusal (answered ts accepted refused) ≡ firstRefusal ts

@@ -2,7 +2,7 @@
 -- tested".
 use mathlib.Core.Path.{_≡_}
 use mathlib.Core.Logic.{_⊎_, _↔_}
-use mathlib.Core.Bool.{Bool, true, false, cond}
+use mathlib.Core.Bool.{Bool, true, false, cond, not, _&&_}
 use mathlib.Core.List.{List, [], _∷_, map}
 use Prim.Native.Nat.{ℕ}
 use lib.Dec.{eqb}
@@ -38,7 +38,17 @@ abbrev pub FirstToHold : List Test → ℕ → Type 0
 FirstToHold [] n = n ≡ 0
 FirstToHold (t ∷ ts) n = cond (eqb (t .number) n) (t .holds ≡ true) ((t .holds ≡ false) × FirstToHold ts n)
 
--- what is promised of an answer after tests
+-- n isn't 0, and no test has it
+abbrev pub fresh : ℕ → List Test → Bool
+fresh n [] = not (eqb n 0)
+fresh n (t ∷ ts) = not (eqb (t .number) n) && fresh n ts
+
+-- no number is 0, and no two are equal: so the tests of each list of refusals
+abbrev pub distinct : List Test → Bool
+distinct [] = true
+distinct (t ∷ ts) = fresh (t .number) ts && distinct ts
+
+-- what is promised of an answer after tests with such numbers
 pub record AnswerPromise {A : Type 0} (refusal : A → ℕ) (ts : List Test) (accepted : A) (refused : ℕ → A) (a : A) : Type 0 where
   -- "A refusal comes when its condition holds and at no other time."
   pub exactly-when : (n : ℕ) → refusal a ≡ n ↔ FirstToHold ts n
