@@ -84,6 +84,15 @@ def exact_slide(m, v):
     return max(slide, Fraction(0))
 
 
+WHOLE, SIX_TENTHS, GLIDE_ONLY = "whole", "six tenths", "glide only"
+
+
+def area_formula(w):
+    """Which of the three area formulas a dimension takes."""
+    # "w above 8,000"; "w above 1,000, up to 8,000"; "w up to 1,000"
+    return WHOLE if w > 8_000 else SIX_TENTHS if w > 1_000 else GLIDE_ONLY
+
+
 def exact_area(w, m, v):
     """The exact area in square centimetres; None outside the ranges."""
     if aircraft_refusal(w, m, v) != 0:
@@ -92,9 +101,10 @@ def exact_area(w, m, v):
     d = Fraction("0.3") + Fraction(w, 1000) / 2
     # "2 × D × (glide + slide) + 3.14 × D²."
     whole = 2 * d * (exact_glide() + exact_slide(m, v)) + Fraction("3.14") * d ** 2
-    if w > 8000:
+    formula = area_formula(w)
+    if formula == WHOLE:
         area = whole
-    elif w > 1000:
+    elif formula == SIX_TENTHS:
         # "six tenths of the same."
         area = Fraction(6, 10) * whole
     else:
@@ -166,9 +176,13 @@ def slide_line(run, saving):
     return Line(max(0, run.low - saving.high), max(0, run.high - saving.low))
 
 
-def t_line(w, glide, slide):
+def full_width(w):
     # "a is w + 600, in millimetres."
-    a = w + 600
+    return w + 600
+
+
+def t_line(w, glide, slide):
+    a = full_width(w)
     # "5. T is a × (glide + slide) + 785 × a × a"
     return Line(a * (glide.low + slide.low) + 785 * a * a,
                 a * (glide.high + slide.high) + 785 * a * a)
@@ -176,11 +190,11 @@ def t_line(w, glide, slide):
 
 def area_line(w, glide, t):
     # "6. Area in square centimetres, low rounded down and high rounded up"
-    a = w + 600
-    if w > 8000:
+    a, formula = full_width(w), area_formula(w)
+    if formula == WHOLE:
         # "T / 100,000 above 8,000 mm"
         low, high = Fraction(t.low, 100_000), Fraction(t.high, 100_000)
-    elif w > 1000:
+    elif formula == SIX_TENTHS:
         # "3 × T / 500,000 above 1,000 mm"
         low, high = Fraction(3 * t.low, 500_000), Fraction(3 * t.high, 500_000)
     else:

@@ -210,7 +210,8 @@ def tables_of_rust(layout, refusal):
 
 
 # Numbers that a refusal's message must say.
-SAID = {5: (*g.LENT_LENGTHS,), 13: (g.TEXT_LENGTH,), 15: (g.FRAME_LENGTH,)}
+SAID = {1: g.DIMENSION_RANGE, 2: g.MASS_RANGE, 3: g.SPEED_RANGE, 4: g.AREA_LIMITS[-1:], 5: (*g.LENT_LENGTHS,), 6: g.CELL_AREA_RANGE,
+        7: (g.LARGEST_COUNT,), 13: (g.TEXT_LENGTH,), 15: (g.FRAME_LENGTH,)}
 
 
 # ---------------------------------------------------------------------------
@@ -273,7 +274,7 @@ def table_differences(checker, what, found):
     if numbers != checker.refusals:
         lines.append(f"{what}: the refusals are {numbers}, the checker's are {checker.refusals}")
     for number, message in found.refusals:
-        lines += [f"{what}: refusal {number} doesn't say {length:,}" for length in SAID.get(number, ()) if f"{length:,}" not in message]
+        lines += [f"{what}: refusal {number} doesn't say {said:,}" for said in SAID.get(number, ()) if f"{said:,}" not in message]
     return lines
 
 
