@@ -25,11 +25,16 @@ ghost use Rattle.arithmetic.specs.Lists.{tabulate};
 ghost use Rattle.hex.specs.Digits.{field};
 ghost use Rattle.hex.specs.Blocks.{lineDigits, fieldsAt};
 ghost use Rattle.hex.specs.Words.{wordAt, numberOfWords};
-ghost use Rattle.case_text.specs.Layout.{countLines, textLength, mapRows, mapColumns, mapCells};
+ghost use Rattle.case_text.specs.Layout.{markWidth, countLines, textLength, mapRows, mapColumns, mapCells};
 ghost use Rattle.case_text.specs.Text.{headOf, marksOf, countsOf};
 
 // The digits of a word, and the words of a line of counts.
 const WORD_DIGITS: usize = 4;
+
+// The digits of two words, and what a number of so many is taken times before as many more.
+const TWO_WORDS: usize = 2 * WORD_DIGITS;
+
+const AFTER_TWO_WORDS: u64 = 1 << 32;
 
 const WORDS: usize = 2 * MAP_COLUMNS;
 
@@ -65,10 +70,10 @@ pub(crate) fn head_of(text: &[u8]) -> CaseHead
 
 // The number in the footprint line that starts at a place.
 fn mark_at(text: &[u8], at: usize) -> u64
-    requires { ⌜ at + 16 ≤ length (now text) ⌝ }
-    ensures { λ r. ⌜ r ≡ field (now (text .entry)) at 16 ⌝ }
+    requires { ⌜ at + markWidth ≤ length (now text) ⌝ }
+    ensures { λ r. ⌜ r ≡ field (now (text .entry)) at markWidth ⌝ }
 {
-    eight_at(text, at) as u64 * 4294967296 + eight_at(text, at + 8) as u64
+    eight_at(text, at) as u64 * AFTER_TWO_WORDS + eight_at(text, at + TWO_WORDS) as u64
 }
 
 pub(crate) fn fill_marks(text: &[u8], marks: &mut [u64])

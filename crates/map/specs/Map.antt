@@ -34,7 +34,7 @@ countAt counts place = getD counts place 0
 
 -- "the highest bit of each is the westernmost cell, and a set bit marks a cell as flown over": 1 where a column's bit is set, else 0
 abbrev pub bitAt : ℕ → ℕ → ℕ
-bitAt bits column = bits / 2 ^ (63 - column) % 2
+bitAt bits column = bits / 2 ^ (mapColumns - 1 - column) % 2
 
 -- 1 where the cell at a place is marked, else 0
 abbrev pub markAt : List ℕ → ℕ → ℕ
