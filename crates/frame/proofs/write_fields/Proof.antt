@@ -26,13 +26,23 @@ write-class-fields-requires c κs = search needs
 slice-write-buffer : tie.Need-slice-write-buffer
 slice-write-buffer c = search needs
 
+-- ---- earlier places: the call, after each part that is written
+abbrev start1 : tie.After-write-area-fields → tie.Start
+start1 c = c .before .before .before
+
+abbrev start2 : tie.After-write-column-fields → tie.Start
+start2 c = start1 (c .before .before .before .before)
+
+abbrev start3 : tie.After-write-class-fields → tie.Start
+start3 c = start2 (c .before .before .before .before)
+
 returns : tie.Need-returns
 unfolding frameLine
 returns c =
     let at3 = c .before .before in
     let at2 = at3 .before .before .before .before in
     let at1 = at2 .before .before .before .before in
-    let start = at1 .before .before .before in
+    let start = start1 at1 in
     let old = now (start .args .buffer) in
     let fs = frameFields (start .args .f) in
     let areas = take 3 fs in
@@ -47,8 +57,7 @@ returns c =
 
 same-length : tie.Need-same-length
 same-length c =
-    let start = c .before .before .before .before .before .before .before .before .before .before .before .before .before in
-    ap length (returns c) ∙ simp (length-append, frame-long, length-drop) (omega (arith, start .pre))
+    ap length (returns c) ∙ simp (length-append, frame-long, length-drop) (omega (arith, start3 (c .before .before) .pre))
 
 pub write-fields-spec : {M : Type 1} → statement M
 write-fields-spec =

@@ -28,10 +28,12 @@ same-length c = search needs
 
 returns : tie.Need-returns
 returns c =
-    let start = c .before .before .before .before .before .before .before .before .before .before in
-    c .before .before .fill-words .ensures
-    ∙ ap (λ (ws : List ℕ). tabulate (countIn ws) mapColumns) (c .before .before .before .before .before .before .words-of .ensures)
-    ∙ words-counts (now (start .args .line)) (λ i. omega (arith, c .before .before .before .before .before .before .before .before .before .shared-slice-known .given i))
+    let filled = c .before .before in
+    let read = filled .before .before .before .before in
+    let lent = read .before .before .before in
+    filled .fill-words .ensures
+    ∙ ap (λ (ws : List ℕ). tabulate (countIn ws) mapColumns) (read .words-of .ensures)
+    ∙ words-counts (now (lent .before .args .line)) (λ i. omega (arith, lent .shared-slice-known .given i))
 
 pub fill-row-spec : {M : Type 1} → statement M
 fill-row-spec =

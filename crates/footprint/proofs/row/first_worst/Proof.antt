@@ -24,13 +24,20 @@ mul-key c = omega arith
 shared-slice-read-key : tie.Need-shared-slice-read-key Inv-loop μ-loop
 shared-slice-read-key c = omega arith
 
+-- ---- earlier places: the column, after its key; the call, from there
+abbrev begun : tie.At-loop Inv-loop μ-loop → tie.Start Inv-loop μ-loop
+begun c = c .before .before
+
+abbrev column : tie.After-key Inv-loop μ-loop → tie.At-loop Inv-loop μ-loop
+column c = c .before .before .before
+
 key-requires : tie.Need-key-requires Inv-loop μ-loop
-key-requires c κs = (omega arith, c .before .before .before .before .pre .1 (c .before .before .loop .c) (omega arith))
+key-requires c κs = let at = c .before .before in (omega arith, begun at .pre .1 (at .loop .c) (omega arith))
 
 returns : tie.Need-returns Inv-loop μ-loop
 returns c =
-    let at = c .before .before .before .before .loop in
-    let start = c .before .before .before .before .before .before in
+    let at = column (c .before) .loop in
+    let start = begun (column (c .before)) in
     first-is (rowKey (start .args .counts .now) (start .args .bits)) mapColumns (start .args .worst) (start .pre .2) (start .pre .3) (at .c) (omega arith) (sym (c .before .key .ensures) ∙ c .if1 .taken) (at .inv .1)
 
 add-c : tie.Need-add-c Inv-loop μ-loop
@@ -41,14 +48,14 @@ loop-less c = omega arith
 
 loop-again : tie.Need-loop-again Inv-loop μ-loop
 loop-again c =
-    let at = c .before .before .before .before .loop in
+    let at = column (c .before) .loop in
     (omega arith, below-more _ _ (at .inv .1) (λ e. c .if1 .left (c .before .key .ensures ∙ e)))
 
 -- the loop can't end without an answer
 returns-2 : tie.Need-returns-2 Inv-loop μ-loop
 returns-2 c =
     let at = c .before .loop in
-    let start = c .before .before .before in
+    let start = begun (c .before) in
     let past : at .c ≡ mapColumns = omega arith in
     absurd (first-found (rowKey (start .args .counts .now) (start .args .bits)) mapColumns (start .args .worst) (start .pre .2) (start .pre .3) (λ k l. at .inv .1 k (omega arith)) (omega arith))
 

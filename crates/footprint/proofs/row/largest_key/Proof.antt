@@ -27,18 +27,25 @@ mul-key c = omega arith
 shared-slice-read-key : tie.Need-shared-slice-read-key Inv-loop μ-loop
 shared-slice-read-key c = omega arith
 
+-- ---- earlier places: the column, after its key and after the comparison; the call, from there
+abbrev begun : tie.At-loop Inv-loop μ-loop → tie.Start Inv-loop μ-loop
+begun c = c .before .before
+
+abbrev column : tie.After-key Inv-loop μ-loop → tie.At-loop Inv-loop μ-loop
+column c = c .before .before .before
+
 key-requires : tie.Need-key-requires Inv-loop μ-loop
-key-requires c κs = (omega arith, c .before .before .before .before .pre .1 (c .before .before .loop .c) (omega arith))
+key-requires c κs = let at = c .before .before in (omega arith, begun at .pre .1 (at .loop .c) (omega arith))
 
 small : (c : tie.After-key Inv-loop μ-loop) → c .key .result ≤ keyMax
 small c =
-    let at = c .before .before .before .loop in
-    let start = c .before .before .before .before .before in
+    let at = column c .loop in
+    let start = begun (column c) in
     let l = key-le (bitAt (start .args .bits) (at .c)) (countAt (start .args .counts .now) (at .c)) (omega arith) (start .pre .1 (at .c) (omega arith)) in
     omega (arith, c .key .ensures, l)
 
 larger-requires : tie.Need-larger-requires Inv-loop μ-loop
-larger-requires c κs = (c .before .before .before .loop .inv .2, small c)
+larger-requires c κs = (column c .loop .inv .2, small c)
 
 add-c : tie.Need-add-c Inv-loop μ-loop
 add-c c = omega arith
@@ -48,8 +55,8 @@ loop-less c = omega arith
 
 loop-again : tie.Need-loop-again Inv-loop μ-loop
 loop-again c =
-    let at = c .before .before .before .before .loop in
-    let args = c .before .before .before .before .before .before .args in
+    let at = column (c .before) .loop in
+    let args = begun (column (c .before)) .args in
     let b = small (c .before) in (
       omega arith,
       c .larger .ensures ∙ ap₂ max (at .inv .1) (c .before .key .ensures) ∙ sym (max-next (rowKey (args .counts .now) (args .bits)) (at .c)),

@@ -24,6 +24,31 @@ loop-holds : tie.Need-loop-holds Inv-loop μ-loop
 unfolding sumBelow maxBelow
 loop-holds c = (omega arith, refl, refl, refl, refl)
 
+-- ---- earlier places: the call, from a step; the step, after one to three of its cells; the loop's end, where the lanes are added
+
+abbrev begun : tie.In-loop Inv-loop μ-loop → tie.Start Inv-loop μ-loop
+begun c = c .before .before .before
+
+abbrev step1 : tie.After-with-cell Inv-loop μ-loop → tie.In-loop Inv-loop μ-loop
+step1 c = c .before .before
+
+abbrev step2 : tie.After-with-cell2 Inv-loop μ-loop → tie.In-loop Inv-loop μ-loop
+step2 c = step1 (c .before .before)
+
+abbrev step3 : tie.After-with-cell3 Inv-loop μ-loop → tie.In-loop Inv-loop μ-loop
+step3 c = step2 (c .before .before)
+
+abbrev ended2 : tie.After-struct-known2 Inv-loop μ-loop → tie.After-loop Inv-loop μ-loop
+ended2 c = c .before .before
+
+abbrev ended4 : tie.After-struct-known4 Inv-loop μ-loop → tie.After-loop Inv-loop μ-loop
+ended4 c = ended2 (c .before .before)
+
+abbrev ended8 : tie.After-struct-known8 Inv-loop μ-loop → tie.After-loop Inv-loop μ-loop
+ended8 c = ended4 (c .before .before .before .before)
+
+-- ---- a step
+
 -- a lane, and the cell of it that a step meets
 abbrev lane : tie.Start Inv-loop μ-loop → ℕ → ℕ → Lane
 lane start = laneOf (start .args .counts .now) (start .args .bits) (start .args .limit)
@@ -33,42 +58,41 @@ cell start j k = markedCount (start .args .counts .now) (start .args .bits) (4 *
 
 module _ (c : tie.In-loop Inv-loop μ-loop) (j : ℕ) (l : j < 4) where
   -- what reading a cell asks
-  read : Masks (c .before .before .before .args .masks .now) × (length (c .before .before .before .args .counts .now) ≡ mapColumns) × (c .before .loop .k < 16) × (j < 4)
-  read = let start = c .before .before .before in (start .pre .0, start .pre .1, omega arith, l)
+  read : Masks (begun c .args .masks .now) × (length (begun c .args .counts .now) ≡ mapColumns) × (c .before .loop .k < 16) × (j < 4)
+  read = (begun c .pre .0, begun c .pre .1, omega arith, l)
 
-  module _ {x : Lane} {n : ℕ} (x-is : x ≡ lane (c .before .before .before) j (c .before .loop .k)) (n-is : n ≡ cell (c .before .before .before) j (c .before .loop .k)) where
-    fits : (x .people + n < 2 ^ 32) × (x .above < 2) × (c .before .before .before .args .limit ≤ largestCount) × (n ≤ largestCount)
+  module _ {x : Lane} {n : ℕ} (x-is : x ≡ lane (begun c) j (c .before .loop .k)) (n-is : n ≡ cell (begun c) j (c .before .loop .k)) where
+    fits : (x .people + n < 2 ^ 32) × (x .above < 2) × (begun c .args .limit ≤ largestCount) × (n ≤ largestCount)
     fits =
-        let start = c .before .before .before in
+        let start = begun c in
         law.cell-fits (start .args .counts .now) (start .args .bits) (start .args .limit) (start .pre .2) j (c .before .loop .k) l (omega arith) (start .pre .3) x-is n-is
 
-    next : withCell x (c .before .before .before .args .limit) n ≡ lane (c .before .before .before) j (c .before .loop .k + 1)
-    next =
-        let args = c .before .before .before .args in law.lane-next (args .counts .now) (args .bits) (args .limit) j (c .before .loop .k) x-is n-is
+    next : withCell x (begun c .args .limit) n ≡ lane (begun c) j (c .before .loop .k + 1)
+    next = let args = begun c .args in law.lane-next (args .counts .now) (args .bits) (args .limit) j (c .before .loop .k) x-is n-is
 
 marked-count-requires : tie.Need-marked-count-requires Inv-loop μ-loop
 marked-count-requires c κs = read c 0 (omega arith)
 
 with-cell-requires : tie.Need-with-cell-requires Inv-loop μ-loop
-with-cell-requires c κs = fits (c .before) 0 (omega arith) (c .before .before .loop .inv .1) (c .marked-count .ensures)
+with-cell-requires c κs = let step = c .before in fits step 0 (omega arith) (step .before .loop .inv .1) (c .marked-count .ensures)
 
 marked-count-requires-2 : tie.Need-marked-count-requires-2 Inv-loop μ-loop
-marked-count-requires-2 c κs = read (c .before .before) 1 (omega arith)
+marked-count-requires-2 c κs = read (step1 c) 1 (omega arith)
 
 with-cell-requires-2 : tie.Need-with-cell-requires-2 Inv-loop μ-loop
-with-cell-requires-2 c κs = fits (c .before .before .before) 1 (omega arith) (c .before .before .before .before .loop .inv .2) (c .marked-count2 .ensures)
+with-cell-requires-2 c κs = let step = step1 (c .before) in fits step 1 (omega arith) (step .before .loop .inv .2) (c .marked-count2 .ensures)
 
 marked-count-requires-3 : tie.Need-marked-count-requires-3 Inv-loop μ-loop
-marked-count-requires-3 c κs = read (c .before .before .before .before) 2 (omega arith)
+marked-count-requires-3 c κs = read (step2 c) 2 (omega arith)
 
 with-cell-requires-3 : tie.Need-with-cell-requires-3 Inv-loop μ-loop
-with-cell-requires-3 c κs = fits (c .before .before .before .before .before) 2 (omega arith) (c .before .before .before .before .before .before .loop .inv .3) (c .marked-count3 .ensures)
+with-cell-requires-3 c κs = let step = step2 (c .before) in fits step 2 (omega arith) (step .before .loop .inv .3) (c .marked-count3 .ensures)
 
 marked-count-requires-4 : tie.Need-marked-count-requires-4 Inv-loop μ-loop
-marked-count-requires-4 c κs = read (c .before .before .before .before .before .before) 3 (omega arith)
+marked-count-requires-4 c κs = read (step3 c) 3 (omega arith)
 
 with-cell-requires-4 : tie.Need-with-cell-requires-4 Inv-loop μ-loop
-with-cell-requires-4 c κs = fits (c .before .before .before .before .before .before .before) 3 (omega arith) (c .before .before .before .before .before .before .before .before .loop .inv .4) (c .marked-count4 .ensures)
+with-cell-requires-4 c κs = let step = step3 (c .before) in fits step 3 (omega arith) (step .before .loop .inv .4) (c .marked-count4 .ensures)
 
 add-k : tie.Need-add-k Inv-loop μ-loop
 add-k c = omega arith
@@ -78,13 +102,16 @@ loop-less c = omega arith
 
 loop-again : tie.Need-loop-again Inv-loop μ-loop
 loop-again c =
-    let here = c .before .before .before .before .before .before .before .before in
-    let at = here .before .loop in (
+    let third = c .before .before in
+    let second = third .before .before in
+    let first = second .before .before in
+    let step = step1 first in
+    let at = step .before .loop in (
       omega arith,
-      c .before .before .before .before .before .before .with-cell .ensures ∙ next here 0 (omega arith) (at .inv .1) (c .before .before .before .before .before .before .before .marked-count .ensures),
-      c .before .before .before .before .with-cell2 .ensures ∙ next here 1 (omega arith) (at .inv .2) (c .before .before .before .before .before .marked-count2 .ensures),
-      c .before .before .with-cell3 .ensures ∙ next here 2 (omega arith) (at .inv .3) (c .before .before .before .marked-count3 .ensures),
-      c .with-cell4 .ensures ∙ next here 3 (omega arith) (at .inv .4) (c .before .marked-count4 .ensures),
+      first .with-cell .ensures ∙ next step 0 (omega arith) (at .inv .1) (first .before .marked-count .ensures),
+      second .with-cell2 .ensures ∙ next step 1 (omega arith) (at .inv .2) (second .before .marked-count2 .ensures),
+      third .with-cell3 .ensures ∙ next step 2 (omega arith) (at .inv .3) (third .before .marked-count3 .ensures),
+      c .with-cell4 .ensures ∙ next step 3 (omega arith) (at .inv .4) (c .before .marked-count4 .ensures),
     )
 
 -- the lanes after all steps
@@ -103,18 +130,19 @@ people-le c =
     law.people-le (start .args .counts .now) (start .args .bits) (start .args .limit) (start .pre .2) (is .0) (is .1) (is .2) (is .3)
 
 add-t12 : tie.Need-add-t12 Inv-loop μ-loop
-add-t12 c = omega (arith, people-le (c .before .before))
+add-t12 c = omega (arith, people-le (ended2 c))
 
 add-t13 : tie.Need-add-t13 Inv-loop μ-loop
-add-t13 c = omega (arith, people-le (c .before .before .before))
+add-t13 c = omega (arith, people-le (ended2 (c .before)))
 
 add-t14 : tie.Need-add-t14 Inv-loop μ-loop
-add-t14 c = omega (arith, people-le (c .before .before .before .before))
+add-t14 c = omega (arith, people-le (ended4 c))
 
 returns : tie.Need-returns Inv-loop μ-loop
 returns c =
-    let start = c .before .before .before .before .before .before .before .before .before .before .before in
-    let is = after (c .before .before .before .before .before .before .before .before) in
+    let end = ended8 c in
+    let start = end .before .before .before in
+    let is = after end in
     law.lanes-all (start .args .counts .now) (start .args .bits) (start .args .limit) (start .pre .2) (is .0) (is .1) (is .2) (is .3)
 
 pub sum-row-spec : {M : Type 1} → statement M

@@ -8,6 +8,16 @@ use Rattle.footprint.proofs.RowLaws as law
 use Rattle.footprint.proofs.row.walk_row.Statement.{statement}
 use Rattle.footprint.proofs.row.walk_row.Tie as tie
 
+-- ---- earlier places: the sum of the row, from both ways out; the call, from there
+abbrev begun : tie.After-sum-row → tie.Start
+begun c = c .before .before .before .before
+
+abbrev above : tie.Then2 → tie.After-sum-row
+above c = c .before .before
+
+abbrev not-above : tie.Else2 → tie.After-sum-row
+not-above c = c .before .before
+
 returns : tie.Need-returns
 returns c =
     let args = c .before .before .args in
@@ -25,23 +35,25 @@ sum-row-requires c κs =
     (start .pre .0, start .pre .1, start .pre .2, omega (arith, c .difference-or-zero .ensures))
 
 largest-key-requires : tie.Need-largest-key-requires
-largest-key-requires c κs = let start = c .before .before .before .before .before .before in (start .pre .1, start .pre .2)
+largest-key-requires c κs = let start = begun (above c) in (start .pre .1, start .pre .2)
 
 returns-2 : tie.Need-returns-2
 returns-2 c =
-    let start = c .before .before .before .before .before .before .before in
+    let summed = above (c .before) in
+    let start = begun summed in
     let args = start .args in
-    let limit-is = c .before .before .before .before .difference-or-zero .ensures in
-    let sum-is = c .before .before .before .sum-row .ensures in
+    let limit-is = summed .before .difference-or-zero .ensures in
+    let sum-is = summed .sum-row .ensures in
     law.row-is (args .counts .now) (args .bits) (args .limit) limit-is sum-is (start .fits .bits .fits)
     (c .largest-key .ensures ∙ law.key-taken (args .counts .now) (args .bits) (args .limit) limit-is sum-is (c .before .if2 .taken))
 
 returns-3 : tie.Need-returns-3
 returns-3 c =
-    let start = c .before .before .before .before .before .before in
+    let summed = not-above c in
+    let start = begun summed in
     let args = start .args in
-    let limit-is = c .before .before .before .difference-or-zero .ensures in
-    let sum-is = c .before .before .sum-row .ensures in
+    let limit-is = summed .before .difference-or-zero .ensures in
+    let sum-is = summed .sum-row .ensures in
     law.row-is (args .counts .now) (args .bits) (args .limit) limit-is sum-is (start .fits .bits .fits)
     (law.key-left (args .counts .now) (args .bits) (args .limit) limit-is sum-is (c .if2 .left))
 

@@ -47,10 +47,24 @@ mul-walk-row-2 c = omega arith
 shared-slice-read-walk-row : tie.Need-shared-slice-read-walk-row Inv-loop μ-loop
 shared-slice-read-walk-row c = omega arith
 
+-- ---- earlier places: the call, from a row's begin; the row's begin, before and after its walk, and after it is added
+
+abbrev begun : tie.In-loop Inv-loop μ-loop → tie.Start Inv-loop μ-loop
+begun c = c .before .before .before .before
+
+abbrev lent : tie.After-shared-slice-known3 Inv-loop μ-loop → tie.In-loop Inv-loop μ-loop
+lent c = c .before .before .before
+
+abbrev walked : tie.After-walk-row Inv-loop μ-loop → tie.In-loop Inv-loop μ-loop
+walked c = lent (c .before)
+
+abbrev added : tie.After-with-row Inv-loop μ-loop → tie.In-loop Inv-loop μ-loop
+added c = walked (c .before)
+
 walk-row-requires : tie.Need-walk-row-requires Inv-loop μ-loop
 walk-row-requires c κs =
-    let start = c .before .before .before .before .before .before .before in
-    let at = c .before .before .before .before .loop in
+    let start = begun (lent c) in
+    let at = lent c .before .loop in
     let counts = start .args .counts .now in
     let marks = start .args .marks .now in (
       masks-are _ refl refl,
@@ -61,9 +75,9 @@ walk-row-requires c κs =
 
 with-row-requires : tie.Need-with-row-requires Inv-loop μ-loop
 with-row-requires c κs =
-    let start = c .before .before .before .before .before .before .before .before in
-    let at = c .before .before .before .before .before .loop in
-    law.map-fits (start .args .counts .now) (start .args .marks .now) (start .pre .2) (at .r) (omega arith) (at .inv .1) (c .walk-row .ensures) (λ p. omega (arith, c .before .before .before .before .before .before .before .shared-slice-known .given p))
+    let start = begun (walked c) in
+    let at = walked c .before .loop in
+    law.map-fits (start .args .counts .now) (start .args .marks .now) (start .pre .2) (at .r) (omega arith) (at .inv .1) (c .walk-row .ensures) (λ p. omega (arith, walked c .before .before .before .shared-slice-known .given p))
 
 add-r : tie.Need-add-r Inv-loop μ-loop
 add-r c = omega arith
@@ -73,8 +87,8 @@ loop-less c = omega arith
 
 loop-again : tie.Need-loop-again Inv-loop μ-loop
 loop-again c =
-    let start = c .before .before .before .before .before .before .before .before .before in
-    let at = c .before .before .before .before .before .before .loop in
+    let start = begun (added c) in
+    let at = added c .before .loop in
     (omega arith, c .with-row .ensures ∙ law.map-next (start .args .counts .now) (start .args .marks .now) (start .pre .2) (at .r) (omega arith) (at .inv .1) (c .before .walk-row .ensures))
 
 returns : tie.Need-returns Inv-loop μ-loop

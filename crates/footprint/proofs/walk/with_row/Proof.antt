@@ -13,13 +13,15 @@ add-people c = search needs
 add-cells : tie.Need-add-cells
 add-cells c = search needs
 
+-- the call, from the test
+abbrev start : tie.After-struct-known5 → tie.Start
+start c = c .before .before .before .before .before
+
 returns : tie.Need-returns
-returns c =
-    let args = c .before .before .before .before .before .before .args in simp (lt-ltb 0 (args .b .worst) (c .if1 .taken))
+returns c = simp (lt-ltb 0 (start (c .before) .args .b .worst) (c .if1 .taken))
 
 returns-2 : tie.Need-returns-2
-returns-2 c =
-    let args = c .before .before .before .before .before .before .args in simp (le-ltb 0 (args .b .worst) (c .if1 .left))
+returns-2 c = simp (le-ltb 0 (start (c .before) .args .b .worst) (c .if1 .left))
 
 pub with-row-spec : {M : Type 1} → statement M
 with-row-spec = tie.close (tie.spec cast-people add-people add-cells returns returns-2)

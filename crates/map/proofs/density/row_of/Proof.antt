@@ -52,7 +52,9 @@ below-density-requires-3 c κs = search needs
 returns-3 : tie.Need-returns-3
 unfolding tableRow
 returns-3 c =
-    simp (past-1 (c .before .before .before .before), past-2 (c .before .before), sym (c .before .below-density3 .ensures) ∙ c .if3 .taken)
+    let at2 = c .before .before in
+    let at1 = at2 .before .before in
+    simp (past-1 at1, past-2 at2, sym (c .before .below-density3 .ensures) ∙ c .if3 .taken)
 
 below-density-requires-4 : tie.Need-below-density-requires-4
 below-density-requires-4 c κs = search needs
@@ -60,8 +62,10 @@ below-density-requires-4 c κs = search needs
 returns-4 : tie.Need-returns-4
 unfolding tableRow
 returns-4 c =
-    let at = c .before .before in
-    simp (past-1 (at .before .before .before .before), past-2 (at .before .before), past-3 at, sym (c .before .below-density4 .ensures) ∙ c .if4 .taken)
+    let at3 = c .before .before in
+    let at2 = at3 .before .before in
+    let at1 = at2 .before .before in
+    simp (past-1 at1, past-2 at2, past-3 at3, sym (c .before .below-density4 .ensures) ∙ c .if4 .taken)
 
 below-density-requires-5 : tie.Need-below-density-requires-5
 below-density-requires-5 c κs = search needs
@@ -69,14 +73,20 @@ below-density-requires-5 c κs = search needs
 returns-5 : tie.Need-returns-5
 unfolding tableRow
 returns-5 c =
-    let at = c .before .before in
-    simp (past-1 (at .before .before .before .before .before .before), past-2 (at .before .before .before .before), past-3 (at .before .before), past-4 at, sym (c .before .below-density5 .ensures) ∙ c .if5 .taken)
+    let at4 = c .before .before in
+    let at3 = at4 .before .before in
+    let at2 = at3 .before .before in
+    let at1 = at2 .before .before in
+    simp (past-1 at1, past-2 at2, past-3 at3, past-4 at4, sym (c .before .below-density5 .ensures) ∙ c .if5 .taken)
 
 returns-6 : tie.Need-returns-6
 unfolding tableRow
 returns-6 c =
-    let at = c .before .before in
-    simp (past-1 (at .before .before .before .before .before .before), past-2 (at .before .before .before .before), past-3 (at .before .before), past-4 at, sym (c .before .below-density5 .ensures) ∙ c .if5 .left)
+    let at4 = c .before .before in
+    let at3 = at4 .before .before in
+    let at2 = at3 .before .before in
+    let at1 = at2 .before .before in
+    simp (past-1 at1, past-2 at2, past-3 at3, past-4 at4, sym (c .before .below-density5 .ensures) ∙ c .if5 .left)
 
 pub row-of-spec : {M : Type 1} → statement M
 row-of-spec =
