@@ -1,13 +1,20 @@
-"""Runs the program on inputs that end early or late, from a file and from a pipe, and compares what it prints with the checker.
+"""The proved program and the installed one, on inputs that end early or late, fail, or stop for a while, and on outputs that can't be
+written. What they print is held to the checker, and the installed one's status and words to its page of help.
 
-usage: program.py PROGRAM
+usage: program.py PROVED INSTALLED
 
 No contract can say what a program reads and writes.
 """
 
+import os
+import re
+import resource
+import signal
 import subprocess
 import sys
 import tempfile
+import time
+import unittest
 from pathlib import Path
 
 ROOT = Path(__file__).resolve().parents[2]
@@ -17,34 +24,102 @@ import case                   # noqa: E402
 import example_cases          # noqa: E402
 import ground_risk as g       # noqa: E402
 
+PROVED, INSTALLED = (Path(path).resolve() for path in sys.argv[1:3])
+TEXT = example_cases.farmhouses()
 ENDS = (0, 1, g.line_digits("line 1"), g.TEXT_LENGTH - 1, g.TEXT_LENGTH, g.TEXT_LENGTH + 1, 2 * g.TEXT_LENGTH)
+INPUTS = [(TEXT + TEXT)[:end] for end in ENDS] + [path.read_bytes() for path in sorted((ROOT / "examples").glob("*.case"))]
+GIVEN, REFUSED, FAILED = 0, 1, 2
 
 
-def printed_from_pipe(program, text):
-    return subprocess.run([program], input=text, stdout=subprocess.PIPE, check=True).stdout
+def run(program, *arguments, **settings):
+    settings = {"input": TEXT, "stdout": subprocess.PIPE} | settings
+    if "stdin" in settings:
+        del settings["input"]
+    return subprocess.run([program, *arguments], stderr=subprocess.PIPE, **settings)
 
 
-def printed_from_file(program, text):
+def run_on_file(program, text):
     with tempfile.TemporaryFile() as file:
         file.write(text)
         file.seek(0)
-        return subprocess.run([program], stdin=file, stdout=subprocess.PIPE, check=True).stdout
+        return run(program, stdin=file)
 
 
-def main():
-    program = Path(sys.argv[1]).resolve()
-    text = example_cases.farmhouses()
-    for end in ENDS:
-        given = (text + text)[:end]
-        wanted = case.frame_of(given)
-        for printed in (printed_from_pipe, printed_from_file):
-            found = printed(program, given)
-            if found != wanted:
-                print(f"an input of {end} bytes, {printed.__name__}: {found!r}, not {wanted!r}")
-                return 1
-    print(f"the program prints what the checker says for inputs of {', '.join(map(str, ENDS))} bytes, from a file and from a pipe")
-    return 0
+def run_with_pauses(program, text, between):
+    """The text in two halves; between them, while the program waits for the second, it gets the signals."""
+    child = subprocess.Popen([program], stdin=subprocess.PIPE, stdout=subprocess.PIPE, stderr=subprocess.PIPE)
+    child.stdin.write(text[:len(text) // 2])
+    child.stdin.flush()
+    time.sleep(0.2)
+    for one in between:
+        child.send_signal(one)
+        time.sleep(0.05)
+    out, err = child.communicate(text[len(text) // 2:], timeout=20)
+    return subprocess.CompletedProcess(program, child.returncode, out, err)
+
+
+class ProgramTest(unittest.TestCase):
+    def ends_with(self, done, status, printed, said):
+        """With this status and these bytes printed; with one line on standard error that has these words, or none."""
+        self.assertEqual((done.returncode, done.stdout or b""), (status, printed))
+        self.assertEqual(done.stderr.count(b"\n"), 1 if said else 0, done.stderr)
+        self.assertRegex(done.stderr.decode(), re.escape(said) if said else "^$")
+
+    def test_every_end_of_the_input_and_every_example(self):
+        for text in INPUTS:
+            wanted = case.frame_of(text)
+            for way in (lambda program: run(program, input=text), lambda program: run_on_file(program, text)):
+                self.ends_with(way(PROVED), GIVEN, wanted, "")
+                self.ends_with(way(INSTALLED), GIVEN if wanted.startswith(b"00") else REFUSED, wanted, "")
+
+    def test_a_signal_between_two_reads(self):
+        for between in ([signal.SIGSTOP, signal.SIGCONT], [signal.SIGWINCH, signal.SIGURG, signal.SIGCHLD]):
+            for program in (PROVED, INSTALLED):
+                self.ends_with(run_with_pauses(program, TEXT, between), GIVEN, case.frame_of(TEXT), "")
+
+    def test_a_directory_as_input(self):
+        folder = os.open(ROOT, os.O_RDONLY)
+        self.ends_with(run(PROVED, stdin=folder), GIVEN, case.frame_of(b""), "")
+        self.ends_with(run(INSTALLED, stdin=folder), FAILED, case.frame_of(b""), "standard input can't be read to its end: Is a directory")
+        os.close(folder)
+
+    def test_a_closed_input(self):
+        self.ends_with(run(INSTALLED, stdin=None, preexec_fn=lambda: os.close(0)), FAILED, case.frame_of(b""),
+                       "standard input can't be read to its end: Bad file descriptor")
+
+    def test_a_full_disk(self):
+        with open("/dev/full", "wb") as full:
+            self.ends_with(run(INSTALLED, stdout=full), FAILED, b"", "standard output can't be written: No space left on device")
+            self.ends_with(run(INSTALLED, "--help", stdout=full), FAILED, b"", "No space left on device")
+            self.ends_with(run(PROVED, stdout=full), GIVEN, b"", "")
+
+    def test_a_closed_pipe(self):
+        for arguments in ([], ["--version"]):
+            there, here = os.pipe()
+            os.close(there)
+            self.ends_with(run(INSTALLED, *arguments, stdout=here), FAILED, b"", "standard output can't be written: Broken pipe")
+            os.close(here)
+
+    def test_a_closed_output(self):
+        self.ends_with(run(INSTALLED, stdout=None, preexec_fn=lambda: os.close(1)), FAILED, b"",
+                       "standard output can't be written: Bad file descriptor")
+
+    def test_a_file_that_may_not_grow(self):
+        with tempfile.TemporaryFile() as file:
+            self.ends_with(run(INSTALLED, stdout=file, preexec_fn=lambda: resource.setrlimit(resource.RLIMIT_FSIZE, (4, 4))), FAILED, b"",
+                           "standard output can't be written: File too large")
+
+    def test_arguments(self):
+        for arguments, named in ((["x"], "'x'"), ([""], "''"), (["--help", "-h"], "'-h'"), (["examples/farmhouses.case"], "'examples/")):
+            self.ends_with(run(INSTALLED, *arguments), FAILED, b"", f"unknown argument {named}")
+        shown = run(INSTALLED, "--help")
+        self.assertEqual((shown.returncode, shown.stdout[:28]), (GIVEN, b"usage: nuggetbay-case < CASE"))
+        for word in (b"--version", b"status: 0 a sheet was given; 1 the case was refused; 2 "):
+            self.assertIn(word, shown.stdout)
+        header = (ROOT / "console/include/nuggetbay.h").read_text()
+        version = ".".join(re.findall(r"#define NB_VERSION_M[AI]\w+ (\d+)\n", header) + re.findall(r"#define NB_VERSION_PATCH (\d+)\n", header))
+        self.ends_with(run(INSTALLED, "--version"), GIVEN, f"nuggetbay-case {version}\n".encode(), "")
 
 
 if __name__ == "__main__":
-    sys.exit(main())
+    unittest.main(argv=sys.argv[:1])
