@@ -108,8 +108,10 @@ test-install: tools $(LIBRARY) $(PROGRAM) | $(MADE)
 	    $(INSTALLED)/bin/nuggetbay-case <examples/$$name.case | cmp - examples/$$name.frame || exit 1; done
 	@echo 'what is installed gives the examples as stored, from C, from Rust and by the program'
 
+# tests, the examples in the documentation, and the documentation itself without a warning
 test-rust: tools $(LIBRARY)
-	$(CARGO) test --release --quiet --package nuggetbay --test library
+	$(CARGO) test --release --offline --quiet --package nuggetbay
+	export RUSTDOCFLAGS=-Dwarnings; $(CARGO) doc --offline --quiet --no-deps --package nuggetbay
 
 # ---- the benchmark
 
