@@ -203,7 +203,8 @@ impl From<ffi::CaseHead> for CaseHead {
     }
 }
 
-/// What is printed of an accepted case.
+/// What is printed of an accepted case:
+/// `write_frame(assess(question).map(|assessment| FrameFields::from(&assessment)), &mut frame)` prints a case, accepted or refused.
 impl From<&Assessment> for FrameFields {
     fn from(assessment: &Assessment) -> FrameFields {
         let Assessment { sheet, footprint, row_used, intrinsic, final_class } = *assessment;

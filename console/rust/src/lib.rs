@@ -4,10 +4,12 @@
 //! ```
 //! use nuggetbay::{sheet, Aircraft};
 //!
-//! let aircraft = Aircraft { dimension: 1_000, mass: 10_000, speed: 2_500 }; // mm, g, cm/s
-//! match sheet(aircraft) {
-//!     Ok(sheet) => println!("column {}{}", sheet.column, if sheet.flag { ", flagged" } else { "" }),
-//!     Err(refusal) => println!("{refusal}"),
+//! fn main() {
+//!     let aircraft = Aircraft { dimension: 1_000, mass: 10_000, speed: 2_500 }; // mm, g, cm/s
+//!     match sheet(aircraft) {
+//!         Ok(sheet) => println!("column {}{}", sheet.column, if sheet.flag { ", flagged" } else { "" }),
+//!         Err(refusal) => println!("{refusal}"),
+//!     }
 //! }
 //! ```
 //!
@@ -22,7 +24,7 @@
 //! - Nothing is allocated, kept, locked or called back. Any number of threads may call at once.
 //!
 //! [`assess`] answers numbers for a map in memory. [`case`] reads a case text and prints a frame; [`read_case`] and [`write_frame`]
-//! are its two ends. [`sheet`], [`footprint()`], [`intrinsic_class`] and [`final_class`] are the steps of an assessment.
+//! are its two ends. [`sheet`], [`footprint`], [`intrinsic_class`] and [`final_class`] are the steps of an assessment.
 //! `include/nuggetbay.h` says the same for C, function by function.
 
 #![deny(missing_docs)]
@@ -155,7 +157,7 @@ pub fn final_class(column: u8, class: u8, word: u16) -> Result<i8, Refusal> {
 ///
 /// # Errors
 ///
-/// Those of [`sheet`] first, then those of [`footprint()`], [`intrinsic_class`] and [`final_class`].
+/// Those of [`sheet`] first, then those of [`footprint`], [`intrinsic_class`] and [`final_class`].
 ///
 /// # Examples
 ///
@@ -261,7 +263,8 @@ pub fn read_case(text: &[u8], counts: &mut [u32], marks: &mut [u64]) -> Result<C
 }
 
 /// Writes what is printed of an accepted case ([`FRAME_LENGTH`] bytes) or of a refused one ([`REFUSAL_LENGTH`] bytes) at the start
-/// of the slice, and answers how many bytes that are. The bytes after the last one written keep their content.
+/// of the slice, and answers how many bytes that are. The bytes after the last one written keep their content. An [`Assessment`] has
+/// its fields by `FrameFields::from(&assessment)`.
 ///
 /// # Errors
 ///
@@ -293,8 +296,6 @@ pub fn read_case(text: &[u8], counts: &mut [u32], marks: &mut [u64]) -> Result<C
 /// assert_eq!(write_frame(Ok(fields), &mut frame[1..]), Err(Refusal::FrameLength));
 /// # Ok::<(), Refusal>(())
 /// ```
-///
-/// An answer of [`assess`] is written by `write_frame(answer.map(|assessment| FrameFields::from(&assessment)), &mut frame)`.
 pub fn write_frame(case: Result<FrameFields, Refusal>, frame: &mut [u8]) -> Result<usize, Refusal> {
     let (number, fields, length) = match case {
         Ok(fields) => (0, fields.into(), FRAME_LENGTH),

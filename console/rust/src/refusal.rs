@@ -7,7 +7,7 @@ use std::fmt;
 macro_rules! refusals {
     ($($number:literal $name:ident $message:literal)*) => {
         /// Why a call is refused. Its number is that of document 01, of a printed frame and of `include/nuggetbay.h`; its message
-        /// says which value was wrong and what is allowed.
+        /// says which value was wrong and what is allowed. A later version may have more refusals.
         ///
         /// # Examples
         ///

@@ -285,7 +285,7 @@ fn refusals_are_found_by_their_numbers() {
 }
 
 /// A number as messages have it, with a comma before each three digits.
-fn with_commas(number: u32) -> String {
+fn with_commas(number: usize) -> String {
     match number {
         0..=999 => number.to_string(),
         _ => format!("{},{:03}", with_commas(number / 1_000), number % 1_000),
@@ -294,9 +294,9 @@ fn with_commas(number: u32) -> String {
 
 #[test]
 fn ranges_are_as_the_messages_say() {
+    type Refused<'a> = &'a dyn Fn(u32) -> Option<Refusal>;
     let (counts, marks) = one_cell(1, 0);
     let cell_area = |cell_area| footprint(&counts, &marks, cell_area).err();
-    type Refused<'a> = &'a dyn Fn(u32) -> Option<Refusal>;
     let ranges: [(Refusal, u32, u32, Refused); 4] = [
         (Refusal::Dimension, 50, 100_000, &|dimension| sheet(Aircraft { dimension, ..P2 }).err()),
         (Refusal::Mass, 50, 25_000_000, &|mass| sheet(Aircraft { mass, ..P2 }).err()),
@@ -304,7 +304,7 @@ fn ranges_are_as_the_messages_say() {
         (Refusal::CellArea, 100, 25_000_000, &cell_area),
     ];
     for (refusal, low, high, refused) in ranges {
-        let range = format!(" {} to {} ", with_commas(low), with_commas(high));
+        let range = format!(" {} to {} ", with_commas(low as usize), with_commas(high as usize));
         assert!(refusal.message().contains(&range), "{refusal}");
         for allowed in [low, high] {
             assert_ne!(refused(allowed), Some(refusal));
@@ -328,7 +328,7 @@ fn refusals_say_what_is_allowed() {
         (Refusal::TextLength, TEXT_LENGTH),
         (Refusal::FrameLength, FRAME_LENGTH),
     ] {
-        assert!(refusal.message().contains(&format!(" {} ", with_commas(length as u32))), "{refusal}");
+        assert!(refusal.message().contains(&format!(" {} ", with_commas(length))), "{refusal}");
     }
     assert_eq!(Refusal::Mass.to_string(), "refusal 2: mass out of range: 50 to 25,000,000 g is allowed");
     assert_eq!(Refusal::try_from(0).map_err(|error| error.to_string()), Err("no refusal has number 0".to_string()));
