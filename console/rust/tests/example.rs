@@ -4,7 +4,7 @@ use std::fs::File;
 use std::path::PathBuf;
 use std::process::{Command, Output, Stdio};
 
-/// The example, which cargo builds beside this test.
+/// The example. `cargo test` builds it beside this test; with `--test` it has to be there already.
 fn example() -> Command {
     let test = std::env::current_exe().expect("a test knows its file");
     let built = test.parent().and_then(|deps| deps.parent()).expect("it stands in the folder deps");
