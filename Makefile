@@ -150,8 +150,10 @@ test-program: $(PROVED_PROGRAM) $(PROGRAM)
 test-install: all
 	MAKE='$(MAKE)' CC='$(CC)' CXX='$(CXX)' python3 console/tests/installed.py
 
+# tests, the examples in the documentation, and the documentation itself without a warning
 test-rust: $(PROVED)
-	$(CARGO) test --release --quiet --package nuggetbay --test library
+	$(CARGO) test --release --offline --quiet --package nuggetbay
+	export RUSTDOCFLAGS=-Dwarnings; $(CARGO) doc --offline --quiet --no-deps --package nuggetbay
 
 # ---- the benchmark
 
