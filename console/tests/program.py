@@ -121,5 +121,25 @@ class ProgramTest(unittest.TestCase):
         self.ends_with(run(INSTALLED, "--version"), GIVEN, f"nuggetbay-case {version}\n".encode(), "")
 
 
+class RunCaseTest(unittest.TestCase):
+    """README's first command."""
+
+    def run_case(self, *arguments):
+        outside = {name: value for name, value in os.environ.items() if name not in ("MAKEFLAGS", "MFLAGS", "MAKELEVEL")}
+        return subprocess.run(["bash", ROOT / "console/run-case", *arguments], cwd=ROOT / "examples", env=outside, stdout=subprocess.PIPE,
+                              stderr=subprocess.PIPE, text=True)
+
+    def test_the_last_lines_are_the_frame_and_what_it_says(self):
+        for text in sorted((ROOT / "examples").glob("*.case")):
+            frame, words = text.with_suffix(".frame").read_text(), (ROOT / "console/examples" / f"{text.stem}.words").read_text()
+            ran = self.run_case(text.name)
+            self.assertEqual((ran.returncode, ran.stdout[-len(frame + words):]), (GIVEN if frame.startswith("00") else REFUSED, frame + words))
+
+    def test_what_cannot_be_read(self):
+        for arguments in ((), ("farmhouses.case", "flagged.case"), ("no.case",), (".",)):
+            ran = self.run_case(*arguments)
+            self.assertEqual((ran.returncode, ran.stdout, ran.stderr.count("\n")), (FAILED, "", 1))
+
+
 if __name__ == "__main__":
     unittest.main(argv=sys.argv[:1])
