@@ -2,7 +2,8 @@
 
 usage: rt ci | progress.py          from the repository's root
 
-What the prover says of each function and library is left out; all else, a fault above all, is passed on as it stands.
+What the prover says of each function and library, and its notes, are left out; all else, a fault above all, is passed on as it
+stands.
 """
 
 import re
@@ -16,7 +17,7 @@ STEPS = (
     ("program", re.compile(r"rt: (\S+ (?:ran|proved, and its run FAILED).*)")),
     ("crate", re.compile(r"rt: (\S+ (?:proved|NOT PROVED).*)")),
 )
-LEFT_OUT = re.compile(r"fn \S+: proved$|logic /|library \S+: modules |logic=proved |linked ")
+LEFT_OUT = re.compile(r"(fn|struct) \S+: proved$|logic /|library \S+: modules |logic=proved |linked |(\S.*: )?note: ")
 
 
 def totals(root):

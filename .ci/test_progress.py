@@ -27,9 +27,10 @@ class ProgressTest(unittest.TestCase):
                          [" 0:07  crate 1 of 2: a NOT PROVED (exit 1, 3 s)", " 0:14  program 1 of 1: b proved, and its run FAILED (0 s)"])
 
     def test_the_provers_own_lines_are_left_out_and_no_other(self):
-        self.assertEqual(self.shown("fn a::b: proved", "logic /opt/x: libraries=16", "library std: modules loaded=2", "logic=proved functions=2 sum=1",
-                                    "linked target=x"), [])
-        for line in ("fn a::b: not proved", "logic=not-proved", "src/lib.rt:3:1: error: no", "axioms libc: libc::read, libc::write (2 of the 50 declared)",
+        self.assertEqual(self.shown("fn a::b: proved", "struct a::B: proved", "logic /opt/x: libraries=16", "library std: modules loaded=2",
+                                    "logic=proved functions=2 sum=1", "linked target=x", "note: no function is declared",
+                                    "/a b/proofs/A.antt:83:93: note: `rw` took the first"), [])
+        for line in ("fn a::b: not proved", "logic=not-proved", "src/lib.rt:3:1: error: no", "  but this has type `A`", "axioms libc: libc::read, libc::write (2 of the 50 declared)",
                      "rt: FAILED: a", "rt: ok, 15 crates proved", "128 passed, 0 failed", ""):
             self.assertEqual(self.shown(line), [line])
 
