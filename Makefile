@@ -25,12 +25,15 @@ SOURCES := crates.txt $(shell find crates -name '*.rt' -o -name '*.antt')
 CARGO = cd console && cargo
 FAULTS = a b c m t f r n p
 
-# Where the installed files stand; a path with a space can't be written in the pkg-config file, so it is refused before anything
-# is made.
+# Where the installed files stand. A space or another character that a shell or pkg-config takes apart is refused before anything is
+# made.
 WHERE := $(if $(PREFIX),$(if $(filter /%,$(firstword $(PREFIX))),$(PREFIX),$(CURDIR)/$(PREFIX)))
 ifneq ($(filter install uninstall,$(MAKECMDGOALS)),)
-ifneq ($(words x$(DESTDIR)$(WHERE)x),1)
-$(error PREFIX and DESTDIR must not have a space: '$(DESTDIR)$(WHERE)')
+unfit := $(DESTDIR)$(WHERE)
+$(foreach character,a b c d e f g h i j k l m n o p q r s t u v w x y z A B C D E F G H I J K L M N O P Q R S T U V W X Y Z \
+    0 1 2 3 4 5 6 7 8 9 / . _ + @ : -,$(eval unfit := $$(subst $(character),,$$(unfit))))
+ifneq ($(unfit),)
+$(error PREFIX and DESTDIR may have letters, digits and / . _ + @ : - and nothing else: '$(DESTDIR)$(WHERE)')
 endif
 endif
 INTO = $(DESTDIR)$(WHERE)
@@ -91,17 +94,19 @@ install: all
 	ln -sf libnuggetbay.so.$(VERSION) '$(INTO)/lib/$(SONAME)'
 	ln -sf $(SONAME) '$(INTO)/lib/libnuggetbay.so'
 	install -m 644 $(HEADER) '$(INTO)/include/nuggetbay.h'
-	sed -e 's,@PREFIX@,$(WHERE),' -e 's,@VERSION@,$(VERSION),' console/nuggetbay.pc.in >'$(INTO)/lib/pkgconfig/nuggetbay.pc'
+	sed -e 's,@PREFIX@,$(WHERE),' -e 's,@VERSION@,$(VERSION),' console/nuggetbay.pc.in >$(MADE)/nuggetbay.pc
+	install -m 644 $(MADE)/nuggetbay.pc '$(INTO)/lib/pkgconfig/nuggetbay.pc'
 	install -m 644 console/rust/Cargo.toml console/rust/build.rs '$(INTO)/share/nuggetbay/rust'
 	install -m 644 console/rust/src/*.rs '$(INTO)/share/nuggetbay/rust/src'
 	install -m 755 $(PROGRAM) '$(INTO)/bin/nuggetbay-case'
+	@echo 'installed in $(INTO). So that programs find the shared library: ldconfig, or LD_LIBRARY_PATH=$(WHERE)/lib'
 
 uninstall:
-	rm -rf $(addsuffix ',$(addprefix '$(INTO)/,$(INSTALLED)))
-	rmdir '$(INTO)/share/nuggetbay' 2>/dev/null || true
+	rm -rf $(addprefix $(INTO)/,$(INSTALLED))
+	rmdir $(INTO)/share/nuggetbay 2>/dev/null || true
 
 clean:
-	rm -rf target
+	rm -rf target .ci/__pycache__ checker/__pycache__ console/tests/__pycache__
 
 # ---- the boundary
 
@@ -113,9 +118,12 @@ test-declarations:
 	python3 -m unittest discover --start-directory console/tests
 	python3 console/tests/declarations.py
 
+$(MADE)/stack-used: console/tests/stack_used.c $(HEADER) $(ARCHIVE)
+	$(CC) $(CFLAGS) -Wl,-z,now -Iconsole/include console/tests/stack_used.c $(ARCHIVE) -o $@
+
 # the bytes of stack that the header says
-test-stack: $(ARCHIVE)
-	python3 console/tests/stack.py $(ARCHIVE)
+test-stack: $(ARCHIVE) $(MADE)/stack-used
+	python3 console/tests/stack.py $(ARCHIVE) $(MADE)/stack-used
 
 $(CALLS): console/tests/boundary_calls.py $(addprefix checker/,ground_risk.py library.py random_cases.py flagged_aircraft.py) | $(MADE)
 	python3 console/tests/boundary_calls.py $@
@@ -142,9 +150,12 @@ test-faults: $(MADE)/boundary-faults $(CALLS)
 	    [ $$? -eq 9 ] || { echo "test-faults: fault u wasn't noticed"; exit 1; }
 	@echo 'every fault was noticed: $(FAULTS) u'
 
+$(MADE)/interrupted.so: console/tests/interrupted.c | $(MADE)
+	$(CC) $(CFLAGS) -shared -fPIC $< -o $@ -ldl
+
 # the proved program and the installed one: inputs that end early or late, fail or stop for a while, outputs that can't be written
-test-program: $(PROVED_PROGRAM) $(PROGRAM)
-	python3 console/tests/program.py $(PROVED_PROGRAM) $(PROGRAM)
+test-program: $(PROVED_PROGRAM) $(PROGRAM) $(MADE)/interrupted.so
+	python3 console/tests/program.py $(PROVED_PROGRAM) $(PROGRAM) $(MADE)/interrupted.so
 
 # what is installed serves programs outside the repository, in C, C++, Rust and Python; and it goes again
 test-install: all

@@ -28,27 +28,31 @@ extern "C" {
 /* ---- Version ---- */
 
 /* The version of this header: the major number grows where an old signature or struct changes, the minor one where something
- * is new. */
+ * is new. A library serves a program that was built with this header where its major number is the same and nb_version() is at
+ * least NB_VERSION. */
 #define NB_VERSION_MAJOR 2
 #define NB_VERSION_MINOR 0
 #define NB_VERSION_PATCH 0
 #define NB_VERSION (NB_VERSION_MAJOR * 10000 + NB_VERSION_MINOR * 100 + NB_VERSION_PATCH)
 
-/* NB_VERSION of the library that the program runs with. The major number must be the header's. */
+/* NB_VERSION of the library that the program runs with. */
 uint32_t nb_version(void);
 
 /* ---- Stack ---- */
 
-/* The bytes of stack that a call needs below the caller's own frame, its return address among them, as read from the
- * library's machine code. Of memcpy, which nb_assess, nb_read_case and nb_case call, the return address is counted. */
+/* The bytes of stack that a call takes at most below the caller's own frame (which has the arguments that are passed on the
+ * stack), its return address among them, as read from the library's machine code. Of memcpy, which nb_assess, nb_read_case and
+ * nb_case call, the return address is counted. This is so once names are bound: in a program that is linked with -Wl,-z,now or
+ * statically, or runs with LD_BIND_NOW=1. Elsewhere the first call binds a name, which took some 3,100 bytes more where it was
+ * tried. */
 #define NB_SHEET_STACK 56u
-#define NB_FOOTPRINT_STACK 440u
-#define NB_INTRINSIC_CLASS_STACK 48u
-#define NB_FINAL_CLASS_STACK 104u
-#define NB_ASSESS_STACK 856u
+#define NB_FOOTPRINT_STACK 448u
+#define NB_INTRINSIC_CLASS_STACK 136u
+#define NB_FINAL_CLASS_STACK 176u
+#define NB_ASSESS_STACK 864u
 #define NB_READ_CASE_STACK 648u
 #define NB_WRITE_FRAME_STACK 96u
-#define NB_CASE_STACK 968u
+#define NB_CASE_STACK 976u
 #define NB_REFUSAL_MESSAGE_STACK 8u
 #define NB_VERSION_STACK 8u
 
@@ -130,7 +134,8 @@ typedef struct {
     nb_sheet_t sheet; /* all zeros where refused */
 } nb_sheet_answer_t;
 
-/* The sheet of an aircraft: dimension in mm (50 to 100,000), mass in g (50 to 25,000,000), speed in cm/s (0 to 40,000).
+/* The sheet of an aircraft: its maximum characteristic dimension in mm (50 to 100,000), maximum take-off mass in g (50 to
+ * 25,000,000) and maximum cruise speed in cm/s (0 to 40,000).
  * Refusals: 1, 2, 3, 4. */
 nb_sheet_answer_t nb_sheet(uint32_t dimension, uint32_t mass, uint32_t speed);
 

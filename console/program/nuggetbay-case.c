@@ -7,7 +7,8 @@
 #include <string.h>
 #include <unistd.h>
 
-enum status { SHEET_GIVEN = 0, CASE_REFUSED = 1, FAILED = 2 };
+/* DONE: a sheet was given, or the words that were asked for. */
+enum status { DONE = 0, REFUSED = 1, FAILED = 2 };
 
 static const char HELP[] =
     "usage: nuggetbay-case < CASE\n"
@@ -57,7 +58,7 @@ static int write_output(const void *bytes, size_t length) {
 
 static enum status print_words(const char *words) {
     int error = write_output(words, strlen(words));
-    return error == 0 ? SHEET_GIVEN : failed("standard output can't be written", error);
+    return error == 0 ? DONE : failed("standard output can't be written", error);
 }
 
 static enum status print_version(void) {
@@ -78,7 +79,7 @@ static enum status run_case(void) {
     size_t length = read_input(text, sizeof text, &reading);
     uint8_t refusal = nb_case(text, length, counts, NB_MAP_CELLS, marks, NB_MAP_ROWS, frame, sizeof frame);
     int writing = write_output(frame, refusal == NB_ACCEPTED ? NB_FRAME_LENGTH : NB_REFUSAL_LENGTH);
-    enum status status = refusal == NB_ACCEPTED ? SHEET_GIVEN : CASE_REFUSED;
+    enum status status = refusal == NB_ACCEPTED ? DONE : REFUSED;
     if (reading != 0) status = failed("standard input can't be read to its end", reading);
     if (writing != 0) status = failed("standard output can't be written", writing);
     return status;

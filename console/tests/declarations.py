@@ -289,9 +289,13 @@ def size_differences(header, structs):
             for name, struct in structs.items() if said.get(name) != ctypes.sizeof(struct)]
 
 
+def version_of(header):
+    return ".".join(re.findall(r"#define NB_VERSION_(?:MAJOR|MINOR|PATCH) (\d+)\n", header))
+
+
 def version_differences(header, package, changes):
     """The version of the header against the Rust package's and that of the newest entry in the list of changes."""
-    version = ".".join(re.findall(r"#define NB_VERSION_(?:MAJOR|MINOR|PATCH) (\d+)\n", header))
+    version = version_of(header)
     others = {"the Rust package": re.findall(r'^version = "(.*)"$', package, re.M),
               "CHANGELOG.md": re.findall(r"^## (\S+)", changes, re.M)}
     return [f"{what} has version {found[0] if found else 'none'}, the header {version}" for what, found in others.items()

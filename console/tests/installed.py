@@ -22,8 +22,8 @@ import declarations as d      # noqa: E402
 MAKE, CC, CXX = (os.environ.get(name, tool) for name, tool in (("MAKE", "make"), ("CC", "gcc"), ("CXX", "g++")))
 WARNINGS = ["-O1", "-Wall", "-Wextra", "-Wpedantic", "-Werror"]
 EXAMPLES = sorted((ROOT / "examples").glob("*.case"))
-HEADER = (ROOT / "console/include/nuggetbay.h").read_text()
-VERSION = ".".join(re.findall(r"#define NB_VERSION_(?:MAJOR|MINOR|PATCH) (\d+)\n", HEADER))
+HEADER = d.sources().header
+VERSION = d.version_of(HEADER)
 MAJOR = VERSION.split(".")[0]
 NUMBER = sum(int(part) * place for part, place in zip(VERSION.split("."), (10000, 100, 1)))
 FUNCTIONS = sorted([*d.read_header(HEADER).functions, "nb_version", "nb_refusal_message"])
@@ -141,20 +141,22 @@ class InstalledTest(unittest.TestCase):
                 printed = subprocess.run([self.prefix / "bin/nuggetbay-case"], stdin=file, stdout=subprocess.PIPE).stdout
             self.assertEqual(printed, text.with_suffix(".frame").read_bytes())
 
-    def test_uninstall_leaves_nothing(self):
+    def test_uninstall_takes_every_file_away(self):
         second = self.place / "second"
         self.assertEqual(make("install", PREFIX=second, DESTDIR="").returncode, 0)
         self.assertEqual(files_in(second), files_in(self.prefix))
         self.assertEqual(make("uninstall", PREFIX=second, DESTDIR="").returncode, 0)
         self.assertEqual(files_in(second), [])
 
-    def test_a_place_with_a_space_is_refused(self):
-        for variables in ({"PREFIX": self.place / "a place", "DESTDIR": ""}, {"PREFIX": "/usr", "DESTDIR": self.place / "a place"}):
-            for goal in ("install", "uninstall"):
-                made = make(goal, **variables)
-                self.assertIn("must not have a space", made.stdout)
-                self.assertNotEqual(made.returncode, 0)
-        self.assertEqual([path.name for path in self.place.glob("a*")], [])
+    def test_a_place_that_a_shell_takes_apart_is_refused(self):
+        for character in " \t,&\\'\"#;~*é":
+            place = self.place / f"unfit{character}place"
+            for variables in ({"PREFIX": place, "DESTDIR": ""}, {"PREFIX": "/usr", "DESTDIR": place}):
+                for goal in ("install", "uninstall"):
+                    made = make(goal, **variables)
+                    self.assertIn("PREFIX and DESTDIR may have letters, digits and ", made.stdout)
+                    self.assertNotEqual(made.returncode, 0)
+        self.assertEqual(list(self.place.glob("unfit*")), [])
 
     def test_a_package_is_staged(self):
         stage = self.place / "stage"

@@ -1,8 +1,9 @@
-"""How many bytes of stack each exported function needs, read from the archive's machine code and held to the header's numbers.
+"""How many bytes of stack each exported function needs, read from the archive's machine code and held to the header's numbers; and
+what calls of them really take, as stack_used.c measures it, held to the same numbers.
 
-usage: stack.py ARCHIVE
+usage: stack.py ARCHIVE STACK_USED
 
-A function's need is the deepest place that it reaches below its caller's frame, its return address among it: its pushes, its
+A function's need is the deepest place that it may reach below its caller's frame, its return address among it: its pushes, its
 frame, what it touches below the stack pointer, and what the functions that it calls need. Every path is followed. Code whose need
 can't be read that way (recursion, a jump or call through a register, a frame of no fixed size) is refused. memcpy is the C
 library's: its return address is counted, and nothing of its own.
@@ -18,6 +19,8 @@ ROOT = Path(__file__).resolve().parents[2]
 HEADER = ROOT / "console/include/nuggetbay.h"
 
 RETURN_ADDRESS = 8
+# The bytes below the stack pointer that a function without calls may use, by the rules of x86-64 Linux.
+RED_ZONE = 128
 FOREIGN = {"memcpy": RETURN_ADDRESS}
 
 
@@ -41,30 +44,42 @@ def functions_of(disassembly):
         elif step := re.match(r"\s*([0-9a-f]+):\t(?:(?:notrack|bnd|rep\w*|lock|cs|data16) )*(\S+)\s*([^#]*)", line):
             current.append(Instruction(int(step[1], 16), step[2], step[3].strip(), None))
         elif link := re.match(r"\s*[0-9a-f]+: R_X86_64_(?:PLT32|PC32)\t(?:\.text\.)?(\S+?)-0x4$", line):
-            if current[-1].name in ("call", "jmp"):
+            if current[-1].name == "call" or current[-1].name.startswith("j"):
                 current[-1] = current[-1]._replace(target=link[1])
     return functions
 
 
 def depth_after(step, depth):
     """The bytes between the return address and the stack pointer after an instruction."""
-    operands = step.operands.split(",")
-    if step.name in ("push", "pushf"):
+    first, _, second = step.operands.partition(",")
+    if step.name == "push":
         return depth + 8
-    if step.name in ("pop", "popf"):
+    if step.name == "pop":
         return depth - 8
-    if operands[0] == "rsp" and step.name in ("sub", "add"):
-        return depth + int(operands[1], 16) * (1 if step.name == "sub" else -1)
-    moved = operands[0] in ("rsp", "esp") and step.name not in ("cmp", "test")
-    if moved or step.name in ("leave", "enter") or step.name == "xchg" and "rsp" in operands:
-        raise Unreadable(f"{step.name} {step.operands} at {step.place:x}")
+    if first == "rsp" and step.name in ("sub", "add"):
+        return depth + int(second, 16) * (1 if step.name == "sub" else -1)
     return depth
 
 
-def touched(step, depth):
-    """The deepest byte that an instruction names by the stack pointer."""
-    below = re.search(r"\[rsp(?:\+\w+\*\d)?-(0x[0-9a-f]+)\]", step.operands)
-    return depth + int(below[1], 16) if below else depth
+def moves_stack(step):
+    """Whether an instruction gives the stack pointer another value, in a way that depth_after doesn't know."""
+    known = step.name in ("push", "pop") or step.name in ("sub", "add") and re.fullmatch(r"rsp,0x[0-9a-f]+", step.operands)
+    written = re.match(r"r?e?spl?\b", step.operands) and step.name not in ("cmp", "test", "push")
+    return not known and bool(written or step.name in ("leave", "enter", "pushf", "popf") or step.name == "xchg" and "rsp" in step.operands)
+
+
+def touched(step, depth, leaf):
+    """The deepest byte that an instruction may touch by way of the stack pointer.
+
+    An address is the stack pointer and a number; or it has an index or comes from a register, and then it lies in an object of the
+    frame, which a function without calls may have below the stack pointer, but not beyond the red zone.
+    """
+    if moves_stack(step):
+        raise Unreadable(f"{step.name} {step.operands} at {step.place:x}")
+    plain = re.search(r"\[rsp(?:\+0x[0-9a-f]+|-(0x[0-9a-f]+))?\]", step.operands)
+    if plain:
+        return depth + int(plain[1] or "0", 16)
+    return depth + RED_ZONE if leaf and re.search(r"\br?e?sp\b", step.operands) and not re.match(r"rsp,0x", step.operands) else depth
 
 
 def jump_of(step):
@@ -77,9 +92,9 @@ def jump_of(step):
     return int(place[1], 16)
 
 
-def next_steps(steps, i, depth):
+def next_steps(steps, places, i, depth):
     """The instructions that may follow, each with its depth."""
-    step, places = steps[i], {one.place: number for number, one in enumerate(steps)}
+    step = steps[i]
     if step.name == "ret" and depth != 0:
         raise Unreadable(f"it returns from depth {depth} at {step.place:x}")
     if step.name in ("ret", "ud2") or step.name == "jmp" and step.target:
@@ -91,12 +106,13 @@ def next_steps(steps, i, depth):
 
 def depths_of(steps):
     """By instruction, the depth before it; each has one, whatever path leads there."""
+    places = {step.place: i for i, step in enumerate(steps)}
     seen, ahead = {}, [(0, 0)]
     while ahead:
         i, depth = ahead.pop()
         if seen.setdefault(i, depth) != depth:
             raise Unreadable(f"two depths at {steps[i].place:x}")
-        ahead += [step for step in next_steps(steps, i, depth) if step not in seen.items()]
+        ahead += [step for step in next_steps(steps, places, i, depth) if step not in seen.items()]
     return seen
 
 
@@ -106,10 +122,10 @@ def need_of(name, functions, above=()):
         return FOREIGN[name]
     if name in above or name not in functions:
         raise Unreadable(f"{name} " + ("calls itself" if name in above else "isn't in the archive"))
-    deepest = 0
+    deepest, leaf = 0, not any(step.target for step in functions[name])
     for i, depth in depths_of(functions[name]).items():
         step = functions[name][i]
-        deepest = max(deepest, depth_after(step, depth), touched(step, depth))
+        deepest = max(deepest, depth_after(step, depth), touched(step, depth, leaf))
         if step.name == "call" and not step.target:
             raise Unreadable(f"a call through a register at {step.place:x}")
         if step.target:
@@ -137,14 +153,31 @@ def differences(found, said):
             for name in sorted({*found, *said}) if found.get(name) != said.get(name)]
 
 
+def excesses(used, said):
+    """What calls took more than is said; and where the deepest took far less, since then nothing was measured."""
+    lines = [f"a call of {name} took {taken} bytes of stack; the header says {said.get(name)}"
+             for name, taken in used.items() if taken > said.get(name, 0)]
+    deepest = max(said, key=said.get)
+    if used.get(deepest, 0) <= said[deepest] - RED_ZONE:
+        lines.append(f"the deepest call, {deepest}, took {used.get(deepest)} bytes; the header says {said[deepest]}")
+    return lines
+
+
+def printed_by(*command):
+    return subprocess.run(command, stdout=subprocess.PIPE, check=True, text=True).stdout
+
+
 def main():
-    shown = subprocess.run(["objdump", "-dr", "-M", "intel", "--no-show-raw-insn", sys.argv[1]], stdout=subprocess.PIPE, check=True, text=True)
-    found = needs(shown.stdout)
-    lines = differences(found, said_in(HEADER.read_text()))
+    archive, stack_used = sys.argv[1:]
+    found = needs(printed_by("objdump", "-dr", "-M", "intel", "--no-show-raw-insn", archive))
+    used = {name: int(taken) for name, taken in map(str.split, printed_by(stack_used).splitlines())}
+    said = said_in(HEADER.read_text())
+    lines = differences(found, said) + excesses(used, said)
     for line in lines:
         print(line)
     if not lines:
-        print(f"{len(found)} functions need the stack that the header says: {', '.join(f'{name} {need}' for name, need in found.items())}")
+        print(f"{len(found)} functions need the stack that the header says, and calls of {len(used)} took no more: "
+              + ", ".join(f"{name} {need}" for name, need in found.items()))
     return 1 if lines else 0
 
 

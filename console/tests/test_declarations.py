@@ -1,7 +1,6 @@
 """The comparison of declarations notices each of these planted differences, and none where there is none."""
 
 import ctypes
-import re
 import unittest
 
 import declarations as d
@@ -255,7 +254,7 @@ class TablesTest(unittest.TestCase):
         self.in_header(f"NB_ASSERT(sizeof(nb_sheet_t) == {size}, sheet_size);\n", "", "Sheet has None bytes")
 
     def test_version(self):
-        version = ".".join(re.findall(r"#define NB_VERSION_\w+ (\d+)\n", REAL.header))
+        version = d.version_of(REAL.header)
         self.in_header("#define NB_VERSION_MINOR ", "#define NB_VERSION_MINOR 9", f"the Rust package has version {version}, the header")
         self.differs(REAL._replace(package=once(REAL.package, f'"{version}"', '"0.0.1"')), "the Rust package has version 0.0.1, the header")
         self.differs(REAL._replace(changes=once(REAL.changes, f"## {version}\n", "## 0.0.1\n")), "CHANGELOG.md has version 0.0.1, the header")

@@ -57,6 +57,22 @@ class ReadmeTest(unittest.TestCase):
         self.assertEqual(numbers, list(g.REFUSALS))
         self.assertIn(f"7 a count above {g.LARGEST_COUNT:,};", listed)
 
+    def test_the_class_table(self):
+        for row, _, *classes in table("Row"):
+            said = tuple(None if cell == "none" else int(cell) for cell in classes)
+            self.assertEqual(said, g.CLASS_TABLE[int(row)])
+        limits = ["{:,}".format(limit / 10_000).removesuffix(".0") for limit in g.AREA_LIMITS]
+        self.assertIn(f"(up to {', '.join(limits[:-1])} and {limits[-1]} m²)", README)
+
+    def test_the_kit(self):
+        kit = (ROOT / ".ci/kit").read_text().strip()
+        for page in ("README.md", "docs/TRUST.md"):
+            self.assertIn(f"`{kit}`", (ROOT / page).read_text())
+        self.assertIn(f"`sum={kit.split()[-1]}`", (ROOT / "docs/TRUST.md").read_text())
+
+    def test_nothing_is_left_to_fill_in(self):
+        self.assertNotIn("TIME_", README)
+
     def test_what_is_pointed_at_is_there(self):
         for path in re.findall(r"\]\(([^)#]+)\)", README) + re.findall(r"^    bash (\S+)", README, re.M):
             self.assertTrue((ROOT / path).exists(), path)

@@ -19,9 +19,10 @@
 //!
 //! For every function here:
 //!
-//! - Every call is answered: what is out of range is refused ([`Refusal`]), nothing panics, and slices of any length may be lent.
-//!   Refusals are tested in the order in which they are listed at the function.
-//! - Nothing is allocated, kept, locked or called back. Any number of threads may call at once.
+//! - Every call is answered: what is out of range is refused ([`Refusal`]), no input makes a call panic, and slices of any length
+//!   may be lent. Refusals are tested in the order in which they are listed at the function.
+//! - Nothing is allocated, kept, locked or called back. Any number of threads may call at once. The stack must have room for the
+//!   call: `include/nuggetbay.h` says how much each function needs, less than a thousand bytes.
 //!
 //! [`assess`] answers numbers for a map in memory. [`case`] reads a case text and prints a frame; [`read_case`] and [`write_frame`]
 //! are its two ends. [`sheet`], [`footprint`], [`intrinsic_class`] and [`final_class`] are the steps of an assessment.
