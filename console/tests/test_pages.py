@@ -1,4 +1,5 @@
-"""README's numbers are the checker's: the fields of a case, the mitigation digits, the refusals, the frame that it explains."""
+"""The pages' numbers: README's are the checker's (the fields of a case, the mitigation digits, the class table, the refusals, the frame
+that it explains), TRUST's are the header's and the repository's."""
 
 import re
 import sys
@@ -11,8 +12,9 @@ sys.path.insert(0, str(ROOT / "checker"))
 import case                   # noqa: E402
 import example_cases          # noqa: E402
 import ground_risk as g       # noqa: E402
+import stack                  # noqa: E402
 
-README = (ROOT / "README.md").read_text()
+README, TRUST = ((ROOT / page).read_text() for page in ("README.md", "docs/TRUST.md"))
 RANGES = {"dimension": g.DIMENSION_RANGE, "mass": g.MASS_RANGE, "speed": g.SPEED_RANGE, "cell_area": g.CELL_AREA_RANGE}
 CREDITS = {"M1(A)": g.M1A_CREDITS, "M1(B)": g.M1B_CREDITS, "M1(C)": g.M1C_CREDITS, "M2": g.M2_CREDITS}
 
@@ -64,18 +66,33 @@ class ReadmeTest(unittest.TestCase):
         limits = ["{:,}".format(limit / 10_000).removesuffix(".0") for limit in g.AREA_LIMITS]
         self.assertIn(f"(up to {', '.join(limits[:-1])} and {limits[-1]} m²)", README)
 
-    def test_the_kit(self):
-        kit = (ROOT / ".ci/kit").read_text().strip()
-        for page in ("README.md", "docs/TRUST.md"):
-            self.assertIn(f"`{kit}`", (ROOT / page).read_text())
-        self.assertIn(f"`sum={kit.split()[-1]}`", (ROOT / "docs/TRUST.md").read_text())
-
     def test_nothing_is_left_to_fill_in(self):
         self.assertNotIn("TIME_", README)
 
     def test_what_is_pointed_at_is_there(self):
         for path in re.findall(r"\]\(([^)#]+)\)", README) + re.findall(r"^    bash (\S+)", README, re.M):
             self.assertTrue((ROOT / path).exists(), path)
+
+
+class TrustTest(unittest.TestCase):
+    def test_the_kit(self):
+        kit = (ROOT / ".ci/kit").read_text().strip()
+        for page in (README, TRUST):
+            self.assertIn(f"`{kit}`", page)
+        self.assertIn(f"`sum={kit.split()[-1]}`", TRUST)
+
+    def test_wrong_programs(self):
+        edits = [path.read_text() for path in ROOT.glob("crates/*/must-fail/*.edit")]
+        of_code = sum("file: src/" in edit for edit in edits)
+        self.assertIn(f"The {len(edits)} wrong programs of the gate", TRUST)
+        self.assertIn(f"{of_code} are of the code, which still compiles, and {len(edits) - of_code} of a definition or a claim", TRUST)
+
+    def test_the_stack(self):
+        said = stack.said_in((ROOT / "console/include/nuggetbay.h").read_text())
+        listed = re.search(r"at most (.*?) \|", TRUST)[1]
+        found = {name: int(number) for number, names in re.findall(r"(\d+)(?: bytes for)? ((?:`nb_\w+`(?: and )?)+)", listed)
+                 for name in re.findall(r"nb_\w+", names)}
+        self.assertEqual(found, said)
 
 
 if __name__ == "__main__":
