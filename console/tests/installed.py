@@ -19,6 +19,9 @@ sys.path.insert(0, str(ROOT / "console/tests"))
 
 import declarations as d      # noqa: E402
 
+# what runs here is no part of the make that may have started this
+for name in ("MAKEFLAGS", "MFLAGS", "MAKELEVEL"):
+    os.environ.pop(name, None)
 MAKE, CC, CXX = (os.environ.get(name, tool) for name, tool in (("MAKE", "make"), ("CC", "gcc"), ("CXX", "g++")))
 WARNINGS = ["-O1", "-Wall", "-Wextra", "-Wpedantic", "-Werror"]
 EXAMPLES = sorted((ROOT / "examples").glob("*.case"))
