@@ -115,7 +115,9 @@ class ProgramTest(unittest.TestCase):
 
     def test_interrupted_and_short_reads_and_writes(self):
         def under(how):
-            return run(INSTALLED, env=os.environ | {"LD_PRELOAD": str(INTERRUPTED), "INPUT_OUTPUT": how})
+            # from its own folder, since a preloaded library's path may have no space
+            preloaded = {"LD_PRELOAD": f"./{INTERRUPTED.name}", "INPUT_OUTPUT": how}
+            return run(INSTALLED, cwd=INTERRUPTED.parent, env=os.environ | preloaded)
 
         for how in ("short", "interrupted"):
             self.ends_with(under(how), GIVEN, case.frame_of(TEXT), "")
