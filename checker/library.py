@@ -5,7 +5,6 @@ declarations by console/tests/declarations.py.
 """
 
 import ctypes
-import subprocess
 from array import array
 from pathlib import Path
 from typing import Callable, NamedTuple
@@ -13,7 +12,7 @@ from typing import Callable, NamedTuple
 import ground_risk as g
 
 ROOT = Path(__file__).resolve().parent.parent
-ARCHIVE = ROOT / "target" / "staticlib" / "libnuggetbay.a"
+SHARED = ROOT / "target" / "console" / "libnuggetbay.so"
 
 U8, U16, U32, U64, I8 = ctypes.c_uint8, ctypes.c_uint16, ctypes.c_uint32, ctypes.c_uint64, ctypes.c_int8
 
@@ -155,15 +154,11 @@ def buffer(kind, values):
 
 
 class Library:
-    def __init__(self, made):
-        """Makes a shared object of the archive in the folder `made`, and loads it."""
-        if not ARCHIVE.is_file():
-            raise SystemExit(f"{ARCHIVE.relative_to(ROOT)} is missing: make it by `rt staticlib nuggetbay`")
-        made.mkdir(parents=True, exist_ok=True)
-        shared = made / "libnuggetbay.so"
-        subprocess.run(["gcc", "-shared", "-o", shared, "-Wl,--whole-archive", ARCHIVE, "-Wl,--no-whole-archive"], check=True)
+    def __init__(self):
+        if not SHARED.is_file():
+            raise SystemExit(f"{SHARED.relative_to(ROOT)} is missing: make it by `make`")
         self.functions = {}
-        lib = ctypes.CDLL(str(shared))
+        lib = ctypes.CDLL(str(SHARED))
         for name, operation in OPERATIONS.items():
             function = getattr(lib, operation.function)
             function.restype, types = operation.answer, []

@@ -58,9 +58,7 @@ class ReadingTest(unittest.TestCase):
         self.assertEqual({part.fills for part in g.BLOCKS} - {""}, set(g.Lent._fields))
         self.assertEqual(g.REFUSAL_DIGITS + sum(width for _, width in g.FRAME) + 1, g.FRAME_LENGTH)
         self.assertEqual(g.REFUSAL_DIGITS + 1, g.REFUSAL_LENGTH)
-        for number, lengths in ((5, g.LENT_LENGTHS), (13, [g.TEXT_LENGTH]), (15, [g.FRAME_LENGTH])):
-            for length in lengths:
-                self.assertIn(f"{length:,}", g.REFUSALS[number])
+        self.assertEqual(g.zeros(), ([0] * 4_096, [0] * 64))
         self.assertEqual(DIGIT_PLACES, {0, 37, 39, 54, 1_110, 1_125, 1_127, 1_638, 33_446, 33_957})
         self.assertEqual(LINE_END_PLACES, {38, 55, 1_126, 1_639, 33_958})
 
@@ -74,7 +72,7 @@ class ReadingTest(unittest.TestCase):
             self.assertEqual(g.read_case(g.text_of_fields(fields, lent), OLD), (0, fields, lent))
 
     def refused(self, number, text, lent=OLD):
-        self.assertEqual(g.read_case(text, lent), (number, g.NO_FIELDS, lent))
+        self.assertEqual(g.read_case(text, lent), (number, (0, 0, 0, 0, 0, 0), lent))
 
     def test_length(self):
         for text in (b"", TEXT[:-1], TEXT + b"\n", TEXT + b"0", TEXT[1:], TEXT * 2, b"\n"):
@@ -122,6 +120,12 @@ class WritingTest(unittest.TestCase):
         self.assertEqual(g.frame_text(frame),
                          b"00123456789abcdef00501070ffff42400000aff\n")
         self.assertEqual(g.frame_text(frame._replace(final_class=0))[-3:], b"00\n")
+
+    def test_last_digits_of_numbers_too_long(self):
+        # document 01 doesn't say it, and no accepted case has one
+        frame = g.Frame(low=0x123456789, high=0xfedcba9876543210, column=255, flag=255, row_used=255, place=0x12345,
+                        people=0x100000000, intrinsic=255, final_class=127)
+        self.assertEqual(g.frame_text(frame), b"002345678976543210ffffff234500000000ff7f\n")
 
     def test_refusals(self):
         for number in g.REFUSALS:

@@ -1,10 +1,16 @@
 """The random calls: every operation has its share and its draws, and a wrong answer or a wrong byte left is a difference."""
 
+import contextlib
 import importlib.machinery
 import importlib.util
+import io
+import re
+import sys
+import tempfile
 import unittest
 from collections import Counter
 from pathlib import Path
+from unittest import mock
 
 import ground_risk as g
 import library
@@ -16,6 +22,8 @@ CALLS = 400
 def load():
     loader = importlib.machinery.SourceFileLoader("compare", str(HERE / "compare"))
     module = importlib.util.module_from_spec(importlib.util.spec_from_loader("compare", loader))
+    # where its workers find it
+    sys.modules["compare"] = module
     loader.exec_module(module)
     return module
 
@@ -116,6 +124,30 @@ class CallsTest(unittest.TestCase):
         self.assertIsNone(compare.as_text({"column": 1, "row": 2, "controlled": 0}))
         self.assertIsNone(compare.as_text({"counts": [1], "marks": [0] * g.ROWS, "cell_area": 100}))
         self.assertEqual(compare.as_text({"text": b"any"}), b"any")
+
+
+class ProgramTest(unittest.TestCase):
+    def ended(self, answers, *arguments):
+        """The status of the program over this library, and what it printed."""
+        with (tempfile.TemporaryDirectory(dir=compare.ROOT) as folder, mock.patch.object(compare, "MADE", Path(folder)),
+              mock.patch.object(compare, "Library", lambda: answers), mock.patch("sys.argv", ["compare", "--seed", "3", *arguments]),
+              contextlib.redirect_stdout(io.StringIO()) as printed, contextlib.redirect_stderr(io.StringIO())):
+            return compare.main(), printed.getvalue()
+
+    def test_so_many_calls_are_made_as_were_asked_for(self):
+        status, printed = self.ended(CheckerAsLibrary(), "--calls", "300")
+        self.assertEqual(status, 0)
+        self.assertIn("\n300 calls, no difference, ", printed)
+        self.assertEqual(sum(int(number) for number in re.findall(r"[a-z] (\d+)", printed.rsplit(": ", 1)[1])), 300)
+
+    def test_a_difference_ends_with_1(self):
+        wrong = CheckerAsLibrary("case", another_number(0))
+        status, printed = self.ended(wrong, "--calls", "300")
+        self.assertEqual(status, 1)
+        number = re.search(r"DIFFERENCE in call (\d+) of seed 3: case", printed)[1]
+        self.assertIn("  saved as ", printed)
+        self.assertEqual(self.ended(wrong, "--only", number)[0], 1)
+        self.assertEqual(self.ended(CheckerAsLibrary(), "--only", number)[0], 0)
 
 
 if __name__ == "__main__":

@@ -1,5 +1,6 @@
-"""Sheet, footprint, class table, mitigation word and the whole assessment."""
+"""The refusals' words, sheet, footprint, class table, mitigation word and the whole assessment."""
 
+import re
 import unittest
 from fractions import Fraction
 
@@ -34,6 +35,17 @@ def some_counts(**people):
     for name, count in people.items():
         counts[int(name[1:])] = count
     return counts
+
+
+class RefusalsTest(unittest.TestCase):
+    def test_numbers(self):
+        self.assertEqual(list(g.REFUSALS), list(range(1, 16)))
+
+    def test_numbers_in_their_words(self):
+        numbers = {refusal: [int(part.replace(",", "")) for part in re.findall(r"\d[\d,]*", words)]
+                   for refusal, words in g.REFUSALS.items()}
+        self.assertEqual({refusal: found for refusal, found in numbers.items() if found}, {
+            4: [650_000_000], 5: [4_096, 64], 7: [1_000_000], 9: [1, 5, 2, 7, 0, 1], 12: [7], 13: [33_959], 15: [41]})
 
 
 class SheetTest(unittest.TestCase):
@@ -77,9 +89,19 @@ class SheetTest(unittest.TestCase):
         self.assertEqual(g.run_line(40_000), (3_082_587_892, 3_082_587_895))
         self.assertEqual(g.saving_line(50), (788_311_247, 788_311_248))
         self.assertEqual(g.saving_line(25_000_000), (1_576, 1_577))
+        # 869 × 45,357,379 is 39,415,562,351, and 144 × 273,719,183 is 39,415,562,352.
+        self.assertEqual(g.saving_line(869), (45_357_379, 45_357_380))
+        self.assertEqual(g.saving_line(144), (273_719_182, 273_719_183))
         # A saving between the two runs: slide low is zero, slide high is not.
         self.assertEqual(g.slide_line(g.Line(10, 12), g.Line(11, 12)), (0, 1))
         self.assertEqual(g.slide_line(g.Line(10, 12), g.Line(12, 13)), (0, 0))
+
+    def test_small_areas_by_hand(self):
+        # a is 1,200: 7,299,998,400 / 200,000 is 36,499.992, and with glide high 36,500.004.
+        self.assertEqual(g.sheet(600, 50, 0).area, (36_499, 36_501))
+        # a is 1,250: 38,266.1375 and 38,266.15; a is 1,300: 40,051.908 and 40,051.921.
+        self.assertEqual(g.sheet(650, 50, 0).area, (38_266, 38_267))
+        self.assertEqual(g.sheet(700, 50, 0).area, (40_051, 40_052))
 
     def test_edges(self):
         for aircraft, refusal in (
@@ -263,7 +285,8 @@ class ClassTest(unittest.TestCase):
             for row in range(256):
                 for mark in (0, 1, 2, 255):
                     wrong = (not 1 <= column <= 5) or (not 2 <= row <= 7) or mark > 1
-                    self.assertEqual(g.intrinsic_class(column, row, mark)[0] == 9, wrong)
+                    # "The answer is zero then."
+                    self.assertEqual(g.intrinsic_class(column, row, mark) == (9, 0), wrong)
         for mark in range(2, 256):
             self.assertEqual(g.intrinsic_class(3, 7, mark), (9, 0))
 
@@ -280,8 +303,13 @@ class MitigationTest(unittest.TestCase):
                    4: {3, 5, 6, 7, 8, 9}, 5: {3, 6, 7, 8, 9, 10}}
         for column in range(256):
             for cls in range(256):
-                refusal = g.final_class(column, cls, 0xffff)[0]
-                self.assertEqual(refusal, 11 if cls in entries.get(column, ()) else 9)
+                refusal = 11 if cls in entries.get(column, ()) else 9
+                self.assertEqual(g.final_class(column, cls, 0xffff), (refusal, 0))
+
+    def test_digits_of_a_word(self):
+        for word, digits in ((0x1234, (1, 2, 3, 4)), (0xfedc, (15, 14, 13, 12)),
+                             (0x0fff, (0, 15, 15, 15)), (0x00ff, (0, 0, 15, 15)), (0x000f, (0, 0, 0, 15))):
+            self.assertEqual(g.word_digits(word), digits)
 
     def test_offered_digits(self):
         refused = [word for word in range(65_536) if g.final_class(3, 6, word) == (11, 0)]
@@ -340,8 +368,9 @@ class AssessmentTest(unittest.TestCase):
                 (11, (*self.large, crowd, marks, 100, 1, 1)),
                 (12, (*self.large, crowd, marks, 25_000_000, 0, 0))):
             with self.subTest(refusal):
-                answer = g.assessment(*wrong)
-                self.assertEqual(answer, g.refused_assessment(refusal))
+                # "After a refusal every number is zero": sheet, footprint, row used, both classes
+                self.assertEqual(g.assessment(*wrong), (
+                    refusal, (0, *[(0, 0)] * 6, 0, 0), (0, 0, 0, 0, 0), 0, 0, 0))
 
     def test_working(self):
         marks = one_cell(0)

@@ -2,10 +2,9 @@
  *
  *   cc case.c $(pkg-config --cflags --libs nuggetbay) -o case && ./case FILE
  *
- * Ends with 0 where the case is accepted, 1 where it is refused, 2 where the file can't be read. */
+ * Ends with 0 where the case is accepted, 1 where it is refused, 2 where the file can't be read or the words can't be written. */
 #include <nuggetbay.h>
 #include <stdio.h>
-#include <string.h>
 
 /* A printed frame, field by field as the header lists them. */
 #define MEMBER(name, digits) unsigned long name;
@@ -46,6 +45,13 @@ static void say(struct frame f) {
     printf("final ground risk class: %d\n", f.final_class == 255 ? -1 : (int)f.final_class);
 }
 
+/* The status, once all is written. */
+static int end(int status) {
+    if (fflush(stdout) == 0 && !ferror(stdout)) return status;
+    fprintf(stderr, "can't write\n");
+    return 2;
+}
+
 int main(int argc, char **argv) {
     /* one byte more than a text has, so that a longer file is seen to be longer */
     static uint8_t text[NB_TEXT_LENGTH + 1];
@@ -53,17 +59,17 @@ int main(int argc, char **argv) {
     static uint64_t marks[NB_MAP_ROWS];
     uint8_t frame[NB_FRAME_LENGTH];
     FILE *file = argc == 2 ? fopen(argv[1], "rb") : NULL;
-    if (file == NULL) {
-        fprintf(stderr, argc == 2 ? "can't read %s\n" : "usage: %s FILE\n", argv[argc - 1]);
+    size_t length = file == NULL ? 0 : fread(text, 1, sizeof text, file);
+    if (file == NULL || ferror(file)) {
+        fprintf(stderr, argc == 2 ? "can't read %s\n" : "usage: %s FILE\n", argv[argc == 2]);
         return 2;
     }
-    size_t length = fread(text, 1, sizeof text, file);
     fclose(file);
     uint8_t refusal = nb_case(text, length, counts, NB_MAP_CELLS, marks, NB_MAP_ROWS, frame, sizeof frame);
     if (refusal != NB_ACCEPTED) {
         printf("refusal %u: %s\n", refusal, nb_refusal_message(refusal));
-        return 1;
+        return end(1);
     }
     say(read_frame(frame));
-    return 0;
+    return end(0);
 }

@@ -1,17 +1,19 @@
-/* nuggetbay: the proved ground risk sheet (SORA 2.5), for C and C++.
+/* nuggetbay: the proved ground risk sheet (SORA 2.5), for C and C++ on x86-64 Linux.
  *
  * From an aircraft, a map of head counts and the flight's footprint to the critical area, the intrinsic and the final
- * ground risk class. Link with libnuggetbay.a; beside it only the C library's memcpy is needed.
+ * ground risk class. Link with -lnuggetbay, or with libnuggetbay.a; beside it only the C library's memcpy is needed.
  *
  * For every function here:
  *   - Every call is answered, also a wrong one: what is out of range is refused by a number (enum nb_refusal), and there is
  *     no number and no length that must not be passed. Refusals are tested in the order in which they are listed at the
  *     function.
  *   - Memory is lent for the time of the call: a pointer, then its length in elements (not in bytes). The pointer must be
- *     aligned for its type and the whole length must be there; with length 0 it isn't read, but must not be NULL. Buffers
+ *     aligned for its type and the whole length must be there; with length 0 it isn't looked at, and may be NULL. Buffers
  *     lent to one call must not overlap, unless all that overlap are const. Nothing outside what is lent is read or written,
  *     and nothing is kept after the call.
  *   - Nothing is allocated, locked or called back. Any number of threads may call at once, each with its own buffers.
+ *   - The stack must have room for the call (NB_.._STACK below): a full one would end the program, and no function can refuse
+ *     that.
  */
 #ifndef NUGGETBAY_H
 #define NUGGETBAY_H
@@ -22,6 +24,37 @@
 #ifdef __cplusplus
 extern "C" {
 #endif
+
+/* ---- Version ---- */
+
+/* The version of this header: the major number grows where an old signature or struct changes, the minor one where something
+ * is new. A library serves a program that was built with this header where its major number is the same and nb_version() is at
+ * least NB_VERSION. */
+#define NB_VERSION_MAJOR 2
+#define NB_VERSION_MINOR 0
+#define NB_VERSION_PATCH 0
+#define NB_VERSION (NB_VERSION_MAJOR * 10000 + NB_VERSION_MINOR * 100 + NB_VERSION_PATCH)
+
+/* NB_VERSION of the library that the program runs with. */
+uint32_t nb_version(void);
+
+/* ---- Stack ---- */
+
+/* The bytes of stack that a call takes at most below the caller's own frame (which has the arguments that are passed on the
+ * stack), its return address among them, as read from the library's machine code. Of memcpy, which nb_assess, nb_read_case and
+ * nb_case call, the return address is counted. This is so once names are bound: in a program that is linked with -Wl,-z,now or
+ * statically, or runs with LD_BIND_NOW=1. Elsewhere the first call binds a name, which took some 3,100 bytes more where it was
+ * tried. */
+#define NB_SHEET_STACK 56u
+#define NB_FOOTPRINT_STACK 448u
+#define NB_INTRINSIC_CLASS_STACK 136u
+#define NB_FINAL_CLASS_STACK 176u
+#define NB_ASSESS_STACK 864u
+#define NB_READ_CASE_STACK 648u
+#define NB_WRITE_FRAME_STACK 96u
+#define NB_CASE_STACK 976u
+#define NB_REFUSAL_MESSAGE_STACK 8u
+#define NB_VERSION_STACK 8u
 
 /* ---- Lengths ---- */
 
@@ -73,16 +106,8 @@ extern "C" {
 enum nb_refusal { NB_REFUSALS(NB_REFUSAL_NUMBER) NB_ACCEPTED = 0 };
 #undef NB_REFUSAL_NUMBER
 
-/* The refusal in words. */
-#define NB_REFUSAL_MESSAGE(number, name, message) case number: return message;
-static inline const char *nb_refusal_message(uint8_t refusal) {
-    switch (refusal) {
-    NB_REFUSALS(NB_REFUSAL_MESSAGE)
-    case NB_ACCEPTED: return "not refused";
-    default: return "no such refusal";
-    }
-}
-#undef NB_REFUSAL_MESSAGE
+/* The refusal in words, "not refused" for 0: a text that stays where it is as long as the library does. */
+const char *nb_refusal_message(uint8_t refusal);
 
 /* ---- The aircraft and its area ---- */
 
@@ -109,7 +134,8 @@ typedef struct {
     nb_sheet_t sheet; /* all zeros where refused */
 } nb_sheet_answer_t;
 
-/* The sheet of an aircraft: dimension in mm (50 to 100,000), mass in g (50 to 25,000,000), speed in cm/s (0 to 40,000).
+/* The sheet of an aircraft: its maximum characteristic dimension in mm (50 to 100,000), maximum take-off mass in g (50 to
+ * 25,000,000) and maximum cruise speed in cm/s (0 to 40,000).
  * Refusals: 1, 2, 3, 4. */
 nb_sheet_answer_t nb_sheet(uint32_t dimension, uint32_t mass, uint32_t speed);
 

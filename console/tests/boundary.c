@@ -2,7 +2,7 @@
  * checker says.
  *
  *   boundary FILE           each call twice: every lent buffer ends where unreadable memory begins, then every one begins where
- *                           unreadable memory ends; what is lent to be read can't be written
+ *                           unreadable memory ends, or is NULL where its length is 0; what is lent to be read can't be written
  *   boundary --heap FILE    each lent buffer is a malloc of its exact length, and what is lent to be written isn't
  *                           initialised: for valgrind
  */
@@ -67,7 +67,7 @@ static void protect(struct arena *arena, int protection) {
 static void *lend(struct arena *arena, size_t length, const void *content) {
     arena->length = length;
     if (placement == HEAP) {
-        /* a malloc of 0 bytes may be NULL, and a lent pointer must not be: one byte, which no call may touch */
+        /* one byte for a length of 0, which no call may touch */
         arena->lent = malloc(length == 0 ? 1 : length);
         if (arena->lent == NULL) fail("no memory");
         if (content != NULL) memcpy(arena->lent, content, length);
@@ -81,7 +81,7 @@ static void *lend(struct arena *arena, size_t length, const void *content) {
         memcpy(arena->lent, content, length);
         protect(arena, PROT_READ);
     }
-    return arena->lent;
+    return length == 0 && placement == AT_START ? NULL : arena->lent;
 }
 
 static int all_pattern(const uint8_t *bytes, size_t length) {

@@ -108,6 +108,8 @@ C_NUMBERS = {"uint8_t": "u8", "uint16_t": "u16", "uint32_t": "u32", "uint64_t": 
              "double": "f64"}
 # Names that are words of C++.
 C_NAMES = {"class_number": "class"}
+# What the library has beside the proved functions (console/library/messages.c), as the header declares it.
+C_FUNCTIONS = ("uint32_t nb_version(void);", "const char *nb_refusal_message(uint8_t refusal);")
 
 
 def rust_type(c_type):
@@ -133,6 +135,8 @@ def c_declarations(text, separator):
 
 def read_header(text):
     text = re.sub(r"^#(?:[^\n]*\\\n)*[^\n]*", "", without_comments(text), flags=re.M)
+    for function in C_FUNCTIONS:
+        text = text.replace(function, "")
     structs = {rust_type(name): c_declarations(fields, ";")
                for fields, name in re.findall(r"typedef struct\s*\{([^{}]*)\}\s*(\w+)\s*;", text)}
     prototypes = re.findall(r"(\w+)\s+(nb_\w+)\s*\(([^()]*)\)\s*;", text)
@@ -285,12 +289,27 @@ def size_differences(header, structs):
             for name, struct in structs.items() if said.get(name) != ctypes.sizeof(struct)]
 
 
+def version_of(header):
+    return ".".join(re.findall(r"#define NB_VERSION_(?:MAJOR|MINOR|PATCH) (\d+)\n", header))
+
+
+def version_differences(header, package, changes):
+    """The version of the header against the Rust package's and that of the newest entry in the list of changes."""
+    version = version_of(header)
+    others = {"the Rust package": re.findall(r'^version = "(.*)"$', package, re.M),
+              "CHANGELOG.md": re.findall(r"^## (\S+)", changes, re.M)}
+    return [f"{what} has version {found[0] if found else 'none'}, the header {version}" for what, found in others.items()
+            if found[:1] != [version]]
+
+
 class Sources(NamedTuple):
     rattle: dict
     header: str
     rust: dict
     structs: dict
     operations: dict
+    package: str = ""
+    changes: str = ""
 
 
 LAYOUT, REFUSAL = "console/rust/src/layout.rs", "console/rust/src/refusal.rs"
@@ -301,7 +320,8 @@ def sources():
         return {str(path.relative_to(ROOT)): path.read_text() for path in sorted(ROOT.glob(pattern))}
 
     return Sources(files("crates/*/src/**/*.rt"), (ROOT / "console/include/nuggetbay.h").read_text(), files("console/rust/src/*.rs"),
-                   library.STRUCTS, library.OPERATIONS)
+                   library.STRUCTS, library.OPERATIONS, (ROOT / "console/rust/Cargo.toml").read_text(),
+                   (ROOT / "CHANGELOG.md").read_text())
 
 
 def declared_differences(s):
@@ -314,7 +334,7 @@ def declared_differences(s):
 
 
 def tabled_differences(s):
-    """Of the lengths, the lists of fields, the refusals and the sizes."""
+    """Of the lengths, the lists of fields, the refusals, the sizes and the version."""
     checker, header = tables_of_checker(), tables_of_header(s.header)
     rust = tables_of_rust(s.rust[LAYOUT], s.rust[REFUSAL])
     lines = list_differences(checker, read_rattle(s.rattle))
@@ -322,7 +342,7 @@ def tabled_differences(s):
     lines += [f"the header has no {name}" for name in checker.lengths if name not in header.lengths]
     lines += [f"refusal {one[0]} is {one[1]!r} in the header and {other[1]!r} in the Rust package"
               for one, other in zip(header.refusals, rust.refusals) if one != other]
-    return lines + size_differences(s.header, s.structs)
+    return lines + size_differences(s.header, s.structs) + version_differences(s.header, s.package, s.changes)
 
 
 def main():

@@ -62,7 +62,7 @@ typedef struct {
     nb_pair_t pair;
 } nb_long_answer_t;
 
-static inline const char *nb_inline(uint8_t refusal) { return refusal ? "a" : "b"; }
+uint32_t nb_version(void);
 
 nb_long_answer_t nb_walk(uint32_t size, const uint32_t *counts, size_t counts_len, uint64_t *marks,
                          size_t marks_len, uint8_t class_number);
@@ -252,6 +252,12 @@ class TablesTest(unittest.TestCase):
         size = ctypes.sizeof(REAL.structs["Sheet"])
         self.in_header(f"sizeof(nb_sheet_t) == {size},", f"sizeof(nb_sheet_t) == {size + 8},", f"Sheet has {size + 8} bytes")
         self.in_header(f"NB_ASSERT(sizeof(nb_sheet_t) == {size}, sheet_size);\n", "", "Sheet has None bytes")
+
+    def test_version(self):
+        version = d.version_of(REAL.header)
+        self.in_header("#define NB_VERSION_MINOR ", "#define NB_VERSION_MINOR 9", f"the Rust package has version {version}, the header")
+        self.differs(REAL._replace(package=once(REAL.package, f'"{version}"', '"0.0.1"')), "the Rust package has version 0.0.1, the header")
+        self.differs(REAL._replace(changes=once(REAL.changes, f"## {version}\n", "## 0.0.1\n")), "CHANGELOG.md has version 0.0.1, the header")
 
     def test_refusals(self):
         for number, message in d.tables_of_header(REAL.header).refusals:

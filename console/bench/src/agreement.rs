@@ -1,16 +1,16 @@
 //! All contestants answer alike, and leave alike what is lent, on good and on damaged inputs.
 
+use crate::ffi::{Footprint, Reading, Sheet, SheetAnswer};
 use crate::inputs::{self, Map, Random};
 use crate::{library, obvious, tuned};
-use nuggetbay::layout::LINE_1_LENGTH;
-use nuggetbay::{Footprint, Reading, SheetAnswer, FRAME_LENGTH, MAP_CELLS, MAP_COLUMNS, MAP_ROWS};
+use nuggetbay::layout::{FRAME_LENGTH, LINE_1_LENGTH, MAP_CELLS, MAP_COLUMNS, MAP_ROWS};
 
 pub struct Tally {
     pub inputs: usize,
     pub refused: usize,
 }
 
-fn sheet_answer(result: Result<nuggetbay::Sheet, u8>) -> SheetAnswer {
+fn sheet_answer(result: Result<Sheet, u8>) -> SheetAnswer {
     match result {
         Ok(sheet) => SheetAnswer { refusal: 0, sheet },
         Err(refusal) => SheetAnswer { refusal, ..Default::default() },

@@ -1,6 +1,7 @@
 //! The inputs of the benchmark, from a fixed seed.
 
-use nuggetbay::{MAP_CELLS, MAP_COLUMNS, MAP_ROWS, TEXT_LENGTH};
+use nuggetbay::layout::{MAP_CELLS, MAP_COLUMNS, MAP_ROWS, TEXT_LENGTH};
+use nuggetbay::Aircraft;
 use std::fmt::Write;
 
 pub struct Random(pub u64);
@@ -24,13 +25,6 @@ impl Random {
     pub fn one_of<T: Copy>(&mut self, choices: &[T]) -> T {
         choices[self.below(choices.len() as u64) as usize]
     }
-}
-
-#[derive(Clone, Copy)]
-pub struct Aircraft {
-    pub dimension: u32,
-    pub mass: u32,
-    pub speed: u32,
 }
 
 /// Of all sizes, masses and speeds; a few are refused for their area.

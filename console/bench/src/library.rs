@@ -1,6 +1,6 @@
 //! The library, called as its header declares it.
 
-use nuggetbay::{ffi, Footprint, Reading, SheetAnswer};
+use crate::ffi::{self, Footprint, Reading, SheetAnswer};
 
 pub fn sheet(dimension: u32, mass: u32, speed: u32) -> SheetAnswer {
     // SAFETY: numbers only.

@@ -1,16 +1,22 @@
 //! The library against obvious and tuned Rust: the same inputs, in one run, the contestants in turn.
 
 mod agreement;
+mod barrier;
+// as the package declares them; not all are measured
+#[allow(dead_code)]
+#[path = "../../rust/src/ffi.rs"]
+mod ffi;
 mod inputs;
 mod instructions;
 mod library;
 mod obvious;
 mod tuned;
 
-use inputs::{Aircraft, Map, Random};
-use nuggetbay::{FRAME_LENGTH, MAP_CELLS, MAP_ROWS};
+use barrier::black_box;
+use inputs::{Map, Random};
+use nuggetbay::layout::{FRAME_LENGTH, MAP_CELLS, MAP_ROWS};
+use nuggetbay::Aircraft;
 use std::cell::RefCell;
-use std::hint::black_box;
 use std::rc::Rc;
 use std::time::{Duration, Instant};
 

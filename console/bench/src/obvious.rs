@@ -1,11 +1,23 @@
 //! The operations as one would write them first: match, early exits, Option and Result, u128 where a product might be long.
 
-use nuggetbay::layout::{place_of, COUNT_DIGITS, LINE_1, LINE_1_LENGTH, MARK_DIGITS};
-use nuggetbay::{Bracket, CaseHead, Footprint, FrameFields, Sheet};
-use nuggetbay::{FRAME_LENGTH, MAP_CELLS, MAP_COLUMNS, MAP_ROWS, TEXT_LENGTH};
+use crate::ffi::{Bracket, CaseHead, Footprint, FrameFields, Sheet};
+use nuggetbay::layout::{line_1_place, COUNT_DIGITS, LINE_1_LENGTH, MARK_DIGITS};
+use nuggetbay::layout::{FRAME_LENGTH, MAP_CELLS, MAP_COLUMNS, MAP_ROWS, TEXT_LENGTH};
 use std::io::Write;
 
 const LIMITS: [u64; 5] = [65_000, 650_000, 6_500_000, 65_000_000, 650_000_000];
+
+/// A quotient rounded up, as `div_ceil` of Rust 1.73 gives it.
+macro_rules! rounded_up {
+    ($number:expr, $by:expr) => {{
+        let (number, by) = ($number, $by);
+        if number % by > 0 {
+            number / by + 1
+        } else {
+            number / by
+        }
+    }};
+}
 
 #[inline(never)]
 pub fn sheet(dimension: u32, mass: u32, speed: u32) -> Result<Sheet, u8> {
@@ -22,25 +34,23 @@ pub fn sheet(dimension: u32, mass: u32, speed: u32) -> Result<Sheet, u8> {
     let square = u128::from(speed) * u128::from(speed);
     let run = Bracket {
         low: (square * 1_926_617_433 / 1_000_000_000) as u64,
-        high: (square * 1_926_617_434).div_ceil(1_000_000_000) as u64,
+        high: rounded_up!(square * 1_926_617_434, 1_000_000_000) as u64,
     };
     let mass = u64::from(mass);
-    let saving = Bracket { low: 39_415_562_351 / mass, high: 39_415_562_352u64.div_ceil(mass) };
+    let saving = Bracket { low: 39_415_562_351 / mass, high: rounded_up!(39_415_562_352, mass) };
     let slide = Bracket { low: run.low.saturating_sub(saving.high), high: run.high.saturating_sub(saving.low) };
     let a = u64::from(dimension) + 600;
     let total_at = |glide: u64, slide: u64| a * (glide + slide) + 785 * a * a;
     let total = Bracket { low: total_at(glide.low, slide.low), high: total_at(glide.high, slide.high) };
     let area = if dimension > 8_000 {
-        Bracket { low: total.low / 100_000, high: total.high.div_ceil(100_000) }
+        Bracket { low: total.low / 100_000, high: rounded_up!(total.high, 100_000) }
     } else if dimension > 1_000 {
-        Bracket { low: 3 * total.low / 500_000, high: (3 * total.high).div_ceil(500_000) }
+        Bracket { low: 3 * total.low / 500_000, high: rounded_up!(3 * total.high, 500_000) }
     } else {
         let without_slide = |glide: u64| 2 * a * glide + 785 * a * a;
-        Bracket { low: without_slide(glide.low) / 200_000, high: without_slide(glide.high).div_ceil(200_000) }
+        Bracket { low: without_slide(glide.low) / 200_000, high: rounded_up!(without_slide(glide.high), 200_000) }
     };
-    let Some(column) = LIMITS.iter().position(|&limit| limit >= area.high) else {
-        return Err(4);
-    };
+    let column = LIMITS.iter().position(|&limit| limit >= area.high).ok_or(4)?;
     let flag = column > 0 && area.low <= LIMITS[column - 1];
     Ok(Sheet { glide, run, saving, slide, total, area, column: column as u8 + 1, flag: u8::from(flag) })
 }
@@ -164,7 +174,7 @@ fn number(digits: &[u8]) -> Option<u64> {
 fn parse(text: &[u8], counts: &mut [u32], marks: &mut [u64]) -> Option<CaseHead> {
     let mut lines = text.split(|&byte| byte == b'\n');
     let first = lines.next().filter(|line| line.len() + 1 == LINE_1_LENGTH)?;
-    let field = |name| number(&first[place_of(&LINE_1, name)]);
+    let field = |name| number(&first[line_1_place(name)?]);
     let head = CaseHead {
         dimension: field("dimension")? as u32,
         mass: field("mass")? as u32,

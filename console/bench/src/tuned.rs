@@ -1,12 +1,10 @@
 //! The operations tuned by hand for the same target (x86-64 with SSE2, safe Rust, no intrinsics): no early exit where bytes or
 //! cells are walked, lanes of digits, cells chosen by masks, one division where two quotients differ by one.
 
-// A sum and one division by a constant; div_ceil would also take the remainder.
-#![allow(clippy::manual_div_ceil)]
-
-use nuggetbay::layout::{place_of, COUNTS, COUNT_LINE, FRAME, LINE_1, LINE_1_LENGTH, MARKS, MARK_LINE};
-use nuggetbay::{Bracket, CaseHead, Footprint, FrameFields, Reading, Sheet, SheetAnswer};
-use nuggetbay::{FRAME_LENGTH, MAP_CELLS, MAP_COLUMNS, MAP_ROWS, REFUSAL_LENGTH, TEXT_LENGTH};
+use crate::ffi::{Bracket, CaseHead, Footprint, FrameFields, Reading, Sheet, SheetAnswer};
+use nuggetbay::layout::{frame_place, line_1_place, COUNTS, COUNT_LINE, LINE_1_LENGTH, MARKS, MARK_LINE};
+use nuggetbay::layout::{FRAME_LENGTH, MAP_CELLS, MAP_COLUMNS, MAP_ROWS, REFUSAL_LENGTH, TEXT_LENGTH};
+use std::ops::Range;
 
 const LIMITS: [u64; 5] = [65_000, 650_000, 6_500_000, 65_000_000, 650_000_000];
 
@@ -112,8 +110,9 @@ fn refused_footprint(refusal: u8) -> Footprint {
 
 #[inline(never)]
 pub fn footprint(counts: &[u32], marks: &[u64], cell_area: u32) -> Footprint {
-    let (Ok(counts), Ok(marks)) = (<&[u32; MAP_CELLS]>::try_from(counts), <&[u64; MAP_ROWS]>::try_from(marks)) else {
-        return refused_footprint(5);
+    let (counts, marks) = match (<&[u32; MAP_CELLS]>::try_from(counts), <&[u64; MAP_ROWS]>::try_from(marks)) {
+        (Ok(counts), Ok(marks)) => (counts, marks),
+        _ => return refused_footprint(5),
     };
     if cell_area.wrapping_sub(100) > 24_999_900 {
         return refused_footprint(6);
@@ -245,18 +244,30 @@ fn fill_row(line: &[u8; COUNT_LINE - 1], row: &mut [u32; MAP_COLUMNS]) {
     }
 }
 
+/// A field's place, found by the compiler.
+macro_rules! place {
+    ($found:expr) => {{
+        const PLACE: Range<usize> = match $found {
+            Some(place) => place,
+            None => panic!("no such field"),
+        };
+        PLACE
+    }};
+}
+
 fn refused_reading(refusal: u8) -> Reading {
     Reading { refusal, ..Default::default() }
 }
 
 #[inline(never)]
 pub fn read_case(text: &[u8], counts: &mut [u32], marks: &mut [u64]) -> Reading {
-    let Ok(text) = <&[u8; TEXT_LENGTH]>::try_from(text) else {
-        return refused_reading(13);
+    let text = match <&[u8; TEXT_LENGTH]>::try_from(text) {
+        Ok(text) => text,
+        Err(_) => return refused_reading(13),
     };
-    let (Ok(counts), Ok(marks)) = (<&mut [u32; MAP_CELLS]>::try_from(counts), <&mut [u64; MAP_ROWS]>::try_from(marks))
-    else {
-        return refused_reading(5);
+    let (counts, marks) = match (<&mut [u32; MAP_CELLS]>::try_from(counts), <&mut [u64; MAP_ROWS]>::try_from(marks)) {
+        (Ok(counts), Ok(marks)) => (counts, marks),
+        _ => return refused_reading(5),
     };
     let mut good = is_line(&text[..LINE_1_LENGTH]);
     for k in 0..MAP_ROWS {
@@ -273,16 +284,16 @@ pub fn read_case(text: &[u8], counts: &mut [u32], marks: &mut [u64]) -> Reading 
         *mark = u64::from(eight_digits(line)) << 32 | u64::from(eight_digits(&line[8..]));
     }
     for (k, row) in counts.chunks_exact_mut(MAP_COLUMNS).enumerate() {
-        let line = text[COUNTS + COUNT_LINE * k..].first_chunk().expect("a line of digits");
-        fill_row(line, row.try_into().expect("a map row"));
+        let line = &text[COUNTS + COUNT_LINE * k..][..COUNT_LINE - 1];
+        fill_row(line.try_into().expect("a line of digits"), row.try_into().expect("a map row"));
     }
     // the controlled mark and the word end with the line's digits
-    let last = eight_digits(&text[const { place_of(&LINE_1, "word").end - 8 }..]);
+    let last = eight_digits(&text[place!(line_1_place("word")).end - 8..]);
     let head = CaseHead {
-        dimension: eight_digits(&text[const { place_of(&LINE_1, "dimension") }]),
-        mass: eight_digits(&text[const { place_of(&LINE_1, "mass") }]),
-        speed: eight_digits(&text[const { place_of(&LINE_1, "speed") }]),
-        cell_area: eight_digits(&text[const { place_of(&LINE_1, "cell_area") }]),
+        dimension: eight_digits(&text[place!(line_1_place("dimension"))]),
+        mass: eight_digits(&text[place!(line_1_place("mass"))]),
+        speed: eight_digits(&text[place!(line_1_place("speed"))]),
+        cell_area: eight_digits(&text[place!(line_1_place("cell_area"))]),
         controlled: (last >> 16) as u8,
         word: last as u16,
     };
@@ -300,7 +311,7 @@ fn write_digits(part: &mut [u8], number: u64) {
 /// The part of a frame that has a field.
 macro_rules! part {
     ($frame:ident, $name:literal) => {
-        &mut $frame[const { place_of(&FRAME, $name) }]
+        &mut $frame[place!(frame_place($name))]
     };
 }
 
@@ -326,8 +337,9 @@ fn write_frame(frame: &mut [u8; FRAME_LENGTH], f: &FrameFields) {
 
 #[inline(never)]
 pub fn case(text: &[u8], counts: &mut [u32], marks: &mut [u64], frame: &mut [u8]) -> u8 {
-    let Some(frame) = frame.first_chunk_mut::<FRAME_LENGTH>() else {
-        return 15;
+    let frame = match frame.get_mut(..FRAME_LENGTH).and_then(|frame| <&mut [u8; FRAME_LENGTH]>::try_from(frame).ok()) {
+        Some(frame) => frame,
+        None => return 15,
     };
     let reading = read_case(text, counts, marks);
     if reading.refusal != 0 {

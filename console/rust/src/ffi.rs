@@ -1,6 +1,99 @@
-//! The functions of the archive, as `include/nuggetbay.h` declares them. A slice is lent as a pointer and a length.
+//! The structs and functions of the archive, as `include/nuggetbay.h` declares them. A slice is lent as a pointer and a length in
+//! elements. Where `refusal` isn't 0, every other number of an answer is zero.
 
-use crate::answers::{Assessment, FinalClass, Footprint, FrameFields, IntrinsicClass, Reading, SheetAnswer};
+#[repr(C)]
+#[derive(Clone, Copy, Debug, Default, PartialEq, Eq)]
+pub struct Bracket {
+    pub low: u64,
+    pub high: u64,
+}
+
+#[repr(C)]
+#[derive(Clone, Copy, Debug, Default, PartialEq, Eq)]
+pub struct Sheet {
+    pub glide: Bracket,
+    pub run: Bracket,
+    pub saving: Bracket,
+    pub slide: Bracket,
+    pub total: Bracket,
+    pub area: Bracket,
+    pub column: u8,
+    pub flag: u8,
+}
+
+#[repr(C)]
+#[derive(Clone, Copy, Debug, Default, PartialEq, Eq)]
+pub struct SheetAnswer {
+    pub refusal: u8,
+    pub sheet: Sheet,
+}
+
+#[repr(C)]
+#[derive(Clone, Copy, Debug, Default, PartialEq, Eq)]
+pub struct Footprint {
+    pub refusal: u8,
+    pub row: u8,
+    pub place: u32,
+    pub people: u64,
+    pub cells: u32,
+}
+
+#[repr(C)]
+#[derive(Clone, Copy, Debug, Default, PartialEq, Eq)]
+pub struct IntrinsicClass {
+    pub refusal: u8,
+    pub class: u8,
+}
+
+#[repr(C)]
+#[derive(Clone, Copy, Debug, Default, PartialEq, Eq)]
+pub struct FinalClass {
+    pub refusal: u8,
+    pub class: i8,
+}
+
+#[repr(C)]
+#[derive(Clone, Copy, Debug, Default, PartialEq, Eq)]
+pub struct Assessment {
+    pub refusal: u8,
+    pub sheet: Sheet,
+    pub footprint: Footprint,
+    pub row_used: u8,
+    pub intrinsic: u8,
+    pub final_class: i8,
+}
+
+#[repr(C)]
+#[derive(Clone, Copy, Debug, Default, PartialEq, Eq)]
+pub struct CaseHead {
+    pub dimension: u32,
+    pub mass: u32,
+    pub speed: u32,
+    pub cell_area: u32,
+    pub controlled: u8,
+    pub word: u16,
+}
+
+#[repr(C)]
+#[derive(Clone, Copy, Debug, Default, PartialEq, Eq)]
+pub struct Reading {
+    pub refusal: u8,
+    pub head: CaseHead,
+}
+
+#[repr(C)]
+#[derive(Clone, Copy, Debug, Default, PartialEq, Eq)]
+pub struct FrameFields {
+    pub low: u64,
+    pub high: u64,
+    pub column: u8,
+    pub flag: u8,
+    pub row_used: u8,
+    pub place: u32,
+    pub people: u64,
+    pub intrinsic: u8,
+    pub final_class: i8,
+}
 
 extern "C" {
     pub fn nb_sheet(dimension: u32, mass: u32, speed: u32) -> SheetAnswer;

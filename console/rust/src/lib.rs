@@ -1,116 +1,345 @@
 //! Safe calls of the proved ground risk sheet (SORA 2.5): from an aircraft, a map of head counts and the flight's footprint
 //! to the critical area, the intrinsic and the final ground risk class.
 //!
+//! ```
+//! use nuggetbay::{sheet, Aircraft};
+//!
+//! fn main() {
+//!     let aircraft = Aircraft { dimension: 1_000, mass: 10_000, speed: 2_500 }; // mm, g, cm/s
+//!     match sheet(aircraft) {
+//!         Ok(sheet) => println!("column {}{}", sheet.column, if sheet.flag { ", flagged" } else { "" }),
+//!         Err(refusal) => println!("{refusal}"),
+//!     }
+//! }
+//! ```
+//!
 //! Units: dimension in mm, mass in g, speed in cm/s, cell area in square metres. A map is [`MAP_CELLS`] head counts, 64 rows of
-//! 64 cells, row 0 north, column 0 west. A footprint is 64 rows of 64 bits; the highest bit is the westernmost cell, and a set
-//! bit marks a cell as flown over. Every call is answered: what is out of range is refused ([`Refusal`]), nothing panics, and
-//! slices of any length may be lent. `include/nuggetbay.h` says the same for C, function by function.
+//! 64 cells, row 0 north, column 0 west. A footprint is one number for each map row, [`MAP_ROWS`] of them; the highest bit is the
+//! westernmost cell, and a set bit marks a cell as flown over.
+//!
+//! For every function here:
+//!
+//! - Every call is answered: what is out of range is refused ([`Refusal`]), no input makes a call panic, and slices of any length
+//!   may be lent. Refusals are tested in the order in which they are listed at the function.
+//! - Nothing is allocated, kept, locked or called back. Any number of threads may call at once. The stack must have room for the
+//!   call: `include/nuggetbay.h` says how much each function needs, less than a thousand bytes.
+//!
+//! [`assess`] answers numbers for a map in memory. [`case`] reads a case text and prints a frame; [`read_case`] and [`write_frame`]
+//! are its two ends. [`sheet`], [`footprint`], [`intrinsic_class`] and [`final_class`] are the steps of an assessment.
+//! `include/nuggetbay.h` says the same for C, function by function.
+
+#![deny(missing_docs)]
+#![warn(clippy::missing_errors_doc, clippy::undocumented_unsafe_blocks)]
 
 mod answers;
-pub mod ffi;
+mod ffi;
 pub mod layout;
 mod refusal;
 
-pub use answers::{
-    Assessment, Bracket, CaseHead, FinalClass, Footprint, FrameFields, IntrinsicClass, Reading, Sheet, SheetAnswer,
-};
+pub use answers::{Aircraft, Assessment, Bracket, CaseHead, Footprint, FrameFields, Question, Sheet};
 pub use layout::{FRAME_LENGTH, MAP_CELLS, MAP_COLUMNS, MAP_ROWS, REFUSAL_LENGTH, TEXT_LENGTH};
-pub use refusal::Refusal;
+pub use refusal::{NoSuchRefusal, Refusal};
 
-/// The value where the number is 0, else the refusal of this number.
-fn unless_refused<T>(refusal: u8, value: T) -> Result<T, Refusal> {
-    if refusal == 0 {
-        return Ok(value);
+/// Whether the library accepted, by the number that it gave.
+fn accepted(number: u8) -> Result<(), Refusal> {
+    match number {
+        0 => Ok(()),
+        _ => Err(Refusal::try_from(number).expect("the library gives no other number, which is proved")),
     }
-    Err(Refusal::of_number(refusal).expect("the library gives no other number, which is proved"))
 }
 
-/// The sheet of an aircraft. Refusals 1 to 4.
-pub fn sheet(dimension: u32, mass: u32, speed: u32) -> Result<Sheet, Refusal> {
+/// The sheet of an aircraft.
+///
+/// # Errors
+///
+/// [`Refusal::Dimension`], [`Refusal::Mass`], [`Refusal::Speed`] where the aircraft is out of range, [`Refusal::Area`] where the
+/// high critical area is above 650,000,000 square centimetres.
+///
+/// # Examples
+///
+/// ```
+/// use nuggetbay::{sheet, Aircraft, Bracket, Refusal};
+///
+/// let aircraft = Aircraft { dimension: 1_000, mass: 10_000, speed: 2_500 };
+/// let answer = sheet(aircraft)?;
+/// assert_eq!(answer.area, Bracket { low: 51_178, high: 51_179 });
+/// assert_eq!((answer.column, answer.flag), (1, false));
+///
+/// assert_eq!(sheet(Aircraft { mass: 49, ..aircraft }), Err(Refusal::Mass));
+/// # Ok::<(), Refusal>(())
+/// ```
+pub fn sheet(aircraft: Aircraft) -> Result<Sheet, Refusal> {
+    let Aircraft { dimension, mass, speed } = aircraft;
     // SAFETY: numbers only.
     let answer = unsafe { ffi::nb_sheet(dimension, mass, speed) };
-    unless_refused(answer.refusal, answer.sheet)
+    accepted(answer.refusal)?;
+    Ok(answer.sheet.into())
 }
 
-/// The footprint on a map. Refusals 5 to 8.
+/// The footprint on a map: [`MAP_CELLS`] counts (0 to 1,000,000 people each), [`MAP_ROWS`] footprint rows, and the area of one
+/// cell in square metres (100 to 25,000,000).
+///
+/// # Errors
+///
+/// [`Refusal::BufferLength`] where a slice has another length, [`Refusal::CellArea`], [`Refusal::Count`] where a count, also of a
+/// cell without a mark, is out of range, [`Refusal::NoCell`] where no cell is marked.
+///
+/// # Examples
+///
+/// ```
+/// use nuggetbay::{footprint, Footprint, Refusal, MAP_CELLS, MAP_ROWS};
+///
+/// let (mut counts, mut marks) = ([0; MAP_CELLS], [0; MAP_ROWS]);
+/// counts[0] = 8; // the north-western cell
+/// marks[0] = 1 << 63;
+/// assert_eq!(footprint(&counts, &marks, 10_000), Ok(Footprint { row: 5, place: 0, people: 8, cells: 1 }));
+///
+/// marks[0] = 0;
+/// assert_eq!(footprint(&counts, &marks, 10_000), Err(Refusal::NoCell));
+/// ```
 pub fn footprint(counts: &[u32], marks: &[u64], cell_area: u32) -> Result<Footprint, Refusal> {
     // SAFETY: both slices are valid for their lengths and are only read.
     let answer = unsafe { ffi::nb_footprint(counts.as_ptr(), counts.len(), marks.as_ptr(), marks.len(), cell_area) };
-    unless_refused(answer.refusal, answer)
+    accepted(answer.refusal)?;
+    Ok(answer.into())
 }
 
-/// The intrinsic class of the sheet's column, the footprint's row and the controlled-ground mark (0 or 1). Refusals 9, 10.
-pub fn intrinsic_class(column: u8, row: u8, controlled: u8) -> Result<u8, Refusal> {
+/// The intrinsic ground risk class, 1 to 10: column (1 to 5) of the sheet and row (2 to 7) of the footprint. Controlled ground
+/// puts row 1 in place of the row.
+///
+/// # Errors
+///
+/// [`Refusal::ClassInput`] where column or row is out of range, [`Refusal::NoClass`] where the class table has no class there.
+///
+/// # Examples
+///
+/// ```
+/// use nuggetbay::{intrinsic_class, Refusal};
+///
+/// assert_eq!(intrinsic_class(3, 4, false), Ok(6));
+/// assert_eq!(intrinsic_class(3, 4, true), Ok(2));
+/// assert_eq!(intrinsic_class(3, 7, false), Err(Refusal::NoClass));
+/// ```
+pub fn intrinsic_class(column: u8, row: u8, controlled: bool) -> Result<u8, Refusal> {
     // SAFETY: numbers only.
-    let answer = unsafe { ffi::nb_intrinsic_class(column, row, controlled) };
-    unless_refused(answer.refusal, answer.class)
+    let answer = unsafe { ffi::nb_intrinsic_class(column, row, controlled.into()) };
+    accepted(answer.refusal)?;
+    Ok(answer.class)
 }
 
-/// The final class of a column, an intrinsic class and the mitigation word: four hexadecimal digits M1(A), M1(B), M1(C), M2.
-/// It may be as low as -1. Refusals 9, 11, 12.
+/// The final ground risk class after mitigation, -1 to 7: column (1 to 5), intrinsic class (an entry of that column) and the
+/// mitigation word.
+///
+/// The four hexadecimal digits of the word are M1(A), M1(B), M1(C), M2, with 0 none, 1 low, 2 medium, 3 high: 0x2212 is M1(A)
+/// medium, M1(B) medium, M1(C) low, M2 medium. Offered are M1(A) 0 to 2, M1(B) 0, 2, 3, M1(C) 0, 1, M2 0, 2, 3.
+///
+/// # Errors
+///
+/// [`Refusal::ClassInput`] where column or class is out of range, [`Refusal::Mitigation`] where a digit isn't offered,
+/// [`Refusal::FinalClass`] where the final class is above 7.
+///
+/// # Examples
+///
+/// ```
+/// use nuggetbay::{final_class, Refusal};
+///
+/// assert_eq!(final_class(3, 6, 0x2212), Ok(1));
+/// assert_eq!(final_class(1, 1, 0x0003), Ok(-1));
+/// assert_eq!(final_class(3, 6, 0x4000), Err(Refusal::Mitigation));
+/// ```
 pub fn final_class(column: u8, class: u8, word: u16) -> Result<i8, Refusal> {
     // SAFETY: numbers only.
     let answer = unsafe { ffi::nb_final_class(column, class, word) };
-    unless_refused(answer.refusal, answer.class)
+    accepted(answer.refusal)?;
+    Ok(answer.class)
 }
 
-/// Sheet, footprint and both classes over a map. Refusals 1 to 12.
-#[allow(clippy::too_many_arguments)]
-pub fn assess(
-    dimension: u32,
-    mass: u32,
-    speed: u32,
-    counts: &[u32],
-    marks: &[u64],
-    cell_area: u32,
-    controlled: u8,
-    word: u16,
-) -> Result<Assessment, Refusal> {
-    // SAFETY: both slices are valid for their lengths and are only read.
-    let answer = unsafe {
-        ffi::nb_assess(
-            dimension,
-            mass,
-            speed,
-            counts.as_ptr(),
-            counts.len(),
-            marks.as_ptr(),
-            marks.len(),
-            cell_area,
-            controlled,
-            word,
-        )
-    };
-    unless_refused(answer.refusal, answer)
+/// Sheet, footprint and both classes over a map.
+///
+/// # Errors
+///
+/// Those of [`sheet`] first, then those of [`footprint`], [`intrinsic_class`] and [`final_class`].
+///
+/// # Examples
+///
+/// ```
+/// use nuggetbay::{assess, Aircraft, Question, Refusal, MAP_CELLS, MAP_ROWS};
+///
+/// let (mut counts, mut marks) = ([0; MAP_CELLS], [0; MAP_ROWS]);
+/// counts[0] = 8;
+/// marks[0] = 1 << 63;
+/// let question = Question {
+///     aircraft: Aircraft { dimension: 1_000, mass: 10_000, speed: 2_500 },
+///     counts: &counts,
+///     marks: &marks,
+///     cell_area: 10_000,
+///     controlled: false,
+///     word: 0x1000,
+/// };
+/// let assessment = assess(question)?;
+/// assert_eq!((assessment.row_used, assessment.intrinsic, assessment.final_class), (5, 5, 4));
+///
+/// assert_eq!(assess(Question { cell_area: 99, ..question }), Err(Refusal::CellArea));
+/// # Ok::<(), Refusal>(())
+/// ```
+pub fn assess(question: Question<'_>) -> Result<Assessment, Refusal> {
+    let Question { aircraft, counts, marks, cell_area, controlled, word } = question;
+    let head = CaseHead { aircraft, cell_area, controlled: controlled.into(), word };
+    head.assess(counts, marks)
 }
 
-/// Reads a case text into [`MAP_CELLS`] counts and [`MAP_ROWS`] footprint rows. A refused reading changes neither. Refusals 13, 5, 14.
+impl CaseHead {
+    /// Sheet, footprint and both classes of the case that was read, over the counts and the footprint that were read with it.
+    ///
+    /// # Errors
+    ///
+    /// Those of [`assess`], and [`Refusal::ClassInput`] where the mark is neither 0 nor 1, tested after the footprint. Of one text
+    /// [`read_case`] and this give the refusals of [`case`].
+    ///
+    /// # Examples
+    ///
+    /// ```
+    /// use nuggetbay::{Aircraft, CaseHead, Refusal, MAP_CELLS, MAP_ROWS};
+    ///
+    /// let aircraft = Aircraft { dimension: 1_000, mass: 10_000, speed: 2_500 };
+    /// let head = CaseHead { aircraft, cell_area: 10_000, controlled: 1, word: 0 };
+    /// let (counts, marks) = ([8; MAP_CELLS], [u64::MAX; MAP_ROWS]);
+    /// assert_eq!(head.assess(&counts, &marks)?.row_used, 1);
+    ///
+    /// let head = CaseHead { controlled: 2, ..head };
+    /// assert_eq!(head.assess(&counts, &marks), Err(Refusal::ClassInput));
+    /// # Ok::<(), Refusal>(())
+    /// ```
+    pub fn assess(&self, counts: &[u32], marks: &[u64]) -> Result<Assessment, Refusal> {
+        let CaseHead { aircraft: Aircraft { dimension, mass, speed }, cell_area, controlled, word } = *self;
+        let ((counts, counts_len), (marks, marks_len)) =
+            ((counts.as_ptr(), counts.len()), (marks.as_ptr(), marks.len()));
+        // SAFETY: both slices are valid for their lengths and are only read.
+        let answer = unsafe {
+            ffi::nb_assess(dimension, mass, speed, counts, counts_len, marks, marks_len, cell_area, controlled, word)
+        };
+        accepted(answer.refusal)?;
+        Ok(answer.into())
+    }
+}
+
+/// Reads a case text ([`TEXT_LENGTH`] bytes) into [`MAP_CELLS`] counts and [`MAP_ROWS`] footprint rows, and answers its line 1.
+/// Where the reading is refused, both slices keep their content.
+///
+/// # Errors
+///
+/// [`Refusal::TextLength`], [`Refusal::BufferLength`] where a slice has another length, [`Refusal::TextByte`] where a byte is no
+/// lower-case hexadecimal digit, or no line end where a line ends. Ranges aren't judged.
+///
+/// # Examples
+///
+/// ```
+/// use nuggetbay::{read_case, Refusal, MAP_CELLS, MAP_ROWS};
+///
+/// // 1,000 mm, 10,000 g, 2,500 cm/s, cells of 10,000 square metres, no controlled ground, M1(A) low
+/// let mut text = String::from("000003e800002710000009c400002710001000\n");
+/// // a mark and eight people in the north-western cell
+/// text += &format!("{:0<16}\n{}", "8", format!("{:0<16}\n", "").repeat(63));
+/// text += &format!("{:0<512}\n{}", "00000008", format!("{:0<512}\n", "").repeat(63));
+///
+/// let (mut counts, mut marks) = ([0; MAP_CELLS], [0; MAP_ROWS]);
+/// let head = read_case(text.as_bytes(), &mut counts, &mut marks)?;
+/// assert_eq!((head.aircraft.dimension, head.word), (1_000, 0x1000));
+/// assert_eq!((counts[0], marks[0]), (8, 1 << 63));
+///
+/// let assessment = head.assess(&counts, &marks)?;
+/// assert_eq!((assessment.intrinsic, assessment.final_class), (5, 4));
+///
+/// let capital = text.to_uppercase();
+/// assert_eq!(read_case(capital.as_bytes(), &mut counts, &mut marks), Err(Refusal::TextByte));
+/// # Ok::<(), Refusal>(())
+/// ```
 pub fn read_case(text: &[u8], counts: &mut [u32], marks: &mut [u64]) -> Result<CaseHead, Refusal> {
     // SAFETY: the slices are valid for their lengths and don't overlap.
     let answer = unsafe {
         ffi::nb_read_case(text.as_ptr(), text.len(), counts.as_mut_ptr(), counts.len(), marks.as_mut_ptr(), marks.len())
     };
-    unless_refused(answer.refusal, answer.head)
+    accepted(answer.refusal)?;
+    Ok(answer.head.into())
 }
 
-/// Writes what is printed of an accepted case ([`FRAME_LENGTH`] bytes), or of a refused one ([`REFUSAL_LENGTH`] bytes), at the
-/// start of the buffer; the rest keeps its content. Answers how many bytes were written. Refusal 15, and then nothing is written.
+/// Writes what is printed of an accepted case ([`FRAME_LENGTH`] bytes) or of a refused one ([`REFUSAL_LENGTH`] bytes) at the start
+/// of the slice, and answers how many bytes that are. The bytes after the last one written keep their content. An [`Assessment`] has
+/// its fields by `FrameFields::from(&assessment)`.
+///
+/// # Errors
+///
+/// [`Refusal::FrameLength`] where the slice has less than [`FRAME_LENGTH`] bytes, for refused cases too. Then nothing is written.
+///
+/// # Examples
+///
+/// ```
+/// use nuggetbay::{write_frame, FrameFields, Refusal, FRAME_LENGTH};
+///
+/// let mut frame = [0; FRAME_LENGTH];
+/// let fields = FrameFields {
+///     low: 51_178,
+///     high: 51_179,
+///     column: 1,
+///     flag: false,
+///     row_used: 5,
+///     place: 0,
+///     people: 8,
+///     intrinsic: 5,
+///     final_class: 4,
+/// };
+/// let length = write_frame(Ok(fields), &mut frame)?;
+/// assert_eq!(&frame[..length], b"000000c7ea0000c7eb0100050000000000080504\n");
+///
+/// let length = write_frame(Err(Refusal::FinalClass), &mut frame)?;
+/// assert_eq!(&frame[..length], b"0c\n");
+///
+/// assert_eq!(write_frame(Ok(fields), &mut frame[1..]), Err(Refusal::FrameLength));
+/// # Ok::<(), Refusal>(())
+/// ```
 pub fn write_frame(case: Result<FrameFields, Refusal>, frame: &mut [u8]) -> Result<usize, Refusal> {
     let (number, fields, length) = match case {
-        Ok(fields) => (0, fields, FRAME_LENGTH),
-        Err(refusal) => (refusal.number(), FrameFields::default(), REFUSAL_LENGTH),
+        Ok(fields) => (0, fields.into(), FRAME_LENGTH),
+        Err(refusal) => (refusal.number(), ffi::FrameFields::default(), REFUSAL_LENGTH),
     };
     // SAFETY: the slice is valid for its length.
-    let answer = unsafe { ffi::nb_write_frame(number, fields, frame.as_mut_ptr(), frame.len()) };
-    unless_refused(answer, length)
+    accepted(unsafe { ffi::nb_write_frame(number, fields, frame.as_mut_ptr(), frame.len()) })?;
+    Ok(length)
 }
 
-/// The whole case: reads the text into the counts and the footprint, assesses it, and prints it into the frame buffer:
-/// [`FRAME_LENGTH`] bytes, or [`REFUSAL_LENGTH`] where it is refused; the rest keeps its content. Counts and footprint are filled where the reading succeeds,
-/// also when a later refusal is printed. Under refusal 15 all three keep their content. Refusals 15, 13, 5, 14, 1 to 12.
+/// The whole case: reads the text, assesses it, and prints the frame.
+///
+/// Counts and marks are filled where the reading succeeds, also when a later refusal is printed, and keep their content where it
+/// doesn't. Of the frame the first [`FRAME_LENGTH`] bytes are written, or the first [`REFUSAL_LENGTH`] where the case is refused.
+/// Under [`Refusal::FrameLength`] all three slices keep their content.
+///
+/// # Errors
+///
+/// [`Refusal::FrameLength`] where the frame has less than [`FRAME_LENGTH`] bytes, then those of [`read_case`], then those of
+/// [`CaseHead::assess`].
+///
+/// # Examples
+///
+/// ```
+/// use nuggetbay::{case, Refusal, FRAME_LENGTH, MAP_CELLS, MAP_ROWS, REFUSAL_LENGTH};
+///
+/// let mut text = String::from("000003e800002710000009c400002710001000\n");
+/// text += &format!("{:0<16}\n{}", "8", format!("{:0<16}\n", "").repeat(63));
+/// text += &format!("{:0<512}\n{}", "00000008", format!("{:0<512}\n", "").repeat(63));
+///
+/// let (mut counts, mut marks, mut frame) = ([0; MAP_CELLS], [0; MAP_ROWS], [0; FRAME_LENGTH]);
+/// case(text.as_bytes(), &mut counts, &mut marks, &mut frame)?;
+/// assert_eq!(&frame, b"000000c7ea0000c7eb0100050000000000080504\n");
+///
+/// text.pop();
+/// let refused = case(text.as_bytes(), &mut counts, &mut marks, &mut frame);
+/// assert_eq!(refused, Err(Refusal::TextLength));
+/// assert_eq!(&frame[..REFUSAL_LENGTH], b"0d\n");
+/// # Ok::<(), Refusal>(())
+/// ```
 pub fn case(text: &[u8], counts: &mut [u32], marks: &mut [u64], frame: &mut [u8]) -> Result<(), Refusal> {
     // SAFETY: the slices are valid for their lengths and don't overlap.
-    let answer = unsafe {
+    accepted(unsafe {
         ffi::nb_case(
             text.as_ptr(),
             text.len(),
@@ -121,6 +350,5 @@ pub fn case(text: &[u8], counts: &mut [u32], marks: &mut [u64], frame: &mut [u8]
             frame.as_mut_ptr(),
             frame.len(),
         )
-    };
-    unless_refused(answer, ())
+    })
 }

@@ -6,27 +6,55 @@ use std::fmt;
 /// The enum and all that is said of its numbers, from one table of number, name and message.
 macro_rules! refusals {
     ($($number:literal $name:ident $message:literal)*) => {
-        /// Why a call is refused. The number is `refusal as u8`; the message says which value was wrong and what is allowed.
+        /// Why a call is refused. Its number is that of document 01, of a printed frame and of `include/nuggetbay.h`; its message
+        /// says which value was wrong and what is allowed. A later version may have more refusals.
+        ///
+        /// # Examples
+        ///
+        /// ```
+        /// use nuggetbay::Refusal;
+        ///
+        /// let refusal = nuggetbay::final_class(5, 9, 0x0000).unwrap_err();
+        /// assert_eq!(refusal, Refusal::FinalClass);
+        /// assert_eq!(refusal.number(), 12);
+        /// assert_eq!(refusal.to_string(), "refusal 12: final class too high: at most 7 is allowed");
+        ///
+        /// assert_eq!(Refusal::try_from(12), Ok(Refusal::FinalClass));
+        /// assert!(Refusal::try_from(0).is_err());
+        /// ```
         #[derive(Clone, Copy, Debug, PartialEq, Eq, Hash)]
+        #[non_exhaustive]
         #[repr(u8)]
         pub enum Refusal {
-            $(#[doc = $message] $name = $number,)*
+            $(#[doc = concat!("Refusal ", $number, ", ", $message, ".")] $name = $number,)*
         }
 
         impl Refusal {
-            pub const ALL: [Refusal; [$($number),*].len()] = [$(Refusal::$name),*];
+            /// Every refusal, in the order of their numbers.
+            pub const ALL: &'static [Refusal] = &[$(Refusal::$name),*];
 
-            /// The refusal of a number; none for 0 and for numbers that the library doesn't give.
-            pub fn of_number(number: u8) -> Option<Refusal> {
-                match number {
-                    $($number => Some(Refusal::$name),)*
-                    _ => None,
-                }
-            }
-
-            pub fn message(self) -> &'static str {
+            /// Which value was wrong and what is allowed, in English.
+            ///
+            /// # Examples
+            ///
+            /// ```
+            /// assert!(nuggetbay::Refusal::Mass.message().starts_with("mass out of range"));
+            /// ```
+            #[must_use]
+            pub const fn message(self) -> &'static str {
                 match self {
                     $(Refusal::$name => $message,)*
+                }
+            }
+        }
+
+        impl TryFrom<u8> for Refusal {
+            type Error = NoSuchRefusal;
+
+            fn try_from(number: u8) -> Result<Refusal, NoSuchRefusal> {
+                match number {
+                    $($number => Ok(Refusal::$name),)*
+                    _ => Err(NoSuchRefusal(number)),
                 }
             }
         }
@@ -52,7 +80,15 @@ refusals! {
 }
 
 impl Refusal {
-    pub fn number(self) -> u8 {
+    /// The number, 1 or more.
+    ///
+    /// # Examples
+    ///
+    /// ```
+    /// assert_eq!(nuggetbay::Refusal::FrameLength.number(), 15);
+    /// ```
+    #[must_use]
+    pub const fn number(self) -> u8 {
         self as u8
     }
 }
@@ -73,3 +109,37 @@ impl fmt::Display for Refusal {
 }
 
 impl Error for Refusal {}
+
+impl From<Refusal> for u8 {
+    fn from(refusal: Refusal) -> u8 {
+        refusal.number()
+    }
+}
+
+/// A number that no refusal has: 0, by which C says that nothing is refused, or one above the last.
+///
+/// # Examples
+///
+/// ```
+/// let error = nuggetbay::Refusal::try_from(200).unwrap_err();
+/// assert_eq!(error.number(), 200);
+/// assert_eq!(error.to_string(), "no refusal has number 200");
+/// ```
+#[derive(Clone, Copy, Debug, PartialEq, Eq, Hash)]
+pub struct NoSuchRefusal(u8);
+
+impl NoSuchRefusal {
+    /// The number.
+    #[must_use]
+    pub const fn number(self) -> u8 {
+        self.0
+    }
+}
+
+impl fmt::Display for NoSuchRefusal {
+    fn fmt(&self, f: &mut fmt::Formatter<'_>) -> fmt::Result {
+        write!(f, "no refusal has number {}", self.0)
+    }
+}
+
+impl Error for NoSuchRefusal {}

@@ -1,10 +1,12 @@
 //! The safe calls: the worked points P1 to P16 of document 01, every refusal, and what is left in lent buffers.
 
-use nuggetbay::layout::{place_of, COUNT_DIGITS, COUNT_LINE, FRAME, LINE_1, LINE_1_LENGTH, MARK_DIGITS, MARK_LINE};
+use nuggetbay::layout::{
+    frame_place, line_1_place, COUNT_DIGITS, COUNT_LINE, FRAME, LINE_1, LINE_1_LENGTH, MARK_DIGITS, MARK_LINE,
+};
 use nuggetbay::*;
 
 fn area_and_column(dimension: u32, mass: u32, speed: u32) -> Result<(u64, u64, u8), Refusal> {
-    sheet(dimension, mass, speed).map(|s| (s.area.low, s.area.high, s.column))
+    sheet(Aircraft { dimension, mass, speed }).map(|s| (s.area.low, s.area.high, s.column))
 }
 
 #[test]
@@ -17,6 +19,16 @@ fn p1_to_p8_the_sheet() {
     assert_eq!(area_and_column(8_001, 50_000, 0), Ok((801_824, 801_825, 3)));
     assert_eq!(area_and_column(49, 0, 0), Err(Refusal::Dimension));
     assert_eq!(area_and_column(100_000, 25_000_000, 40_000), Err(Refusal::Area));
+}
+
+#[test]
+fn the_flag_is_that_of_the_stored_example() {
+    let flagged = case_file("flagged");
+    assert_eq!(
+        flagged.head.assess(&flagged.counts, &flagged.marks).map(|a| (a.sheet.column, a.sheet.flag)),
+        Ok((3, true))
+    );
+    assert_eq!(sheet(P2).map(|sheet| sheet.flag), Ok(false));
 }
 
 /// A map with people in one marked cell.
@@ -62,22 +74,49 @@ fn p12_to_p15_the_classes() {
     assert_eq!(final_class(5, 9, 0x0000), Err(Refusal::FinalClass));
     assert_eq!(final_class(3, 6, 0x4000), Err(Refusal::Mitigation));
     assert_eq!(final_class(3, 1, 0x0000), Err(Refusal::ClassInput));
-    assert_eq!(intrinsic_class(3, 4, 0), Ok(6));
-    assert_eq!(intrinsic_class(3, 4, 1), Ok(2));
-    assert_eq!(intrinsic_class(3, 7, 0), Err(Refusal::NoClass));
-    assert_eq!(intrinsic_class(0, 4, 0), Err(Refusal::ClassInput));
+    assert_eq!(intrinsic_class(3, 4, false), Ok(6));
+    assert_eq!(intrinsic_class(3, 4, true), Ok(2));
+    assert_eq!(intrinsic_class(3, 7, false), Err(Refusal::NoClass));
+    assert_eq!(intrinsic_class(0, 4, false), Err(Refusal::ClassInput));
 }
+
+const P2: Aircraft = Aircraft { dimension: 1_000, mass: 10_000, speed: 2_500 };
 
 #[test]
 fn the_assessment_is_its_parts() {
     let (counts, marks) = one_cell(8, 0);
-    let a = assess(1_000, 10_000, 2_500, &counts, &marks, 10_000, 0, 0x1000).expect("P16 is accepted");
-    assert_eq!(a.sheet, sheet(1_000, 10_000, 2_500).expect("P2 is accepted"));
-    assert_eq!(a.footprint, footprint(&counts, &marks, 10_000).expect("P11 is accepted"));
+    let question =
+        Question { aircraft: P2, counts: &counts, marks: &marks, cell_area: 10_000, controlled: false, word: 0x1000 };
+    let a = assess(question).expect("P16 is accepted");
+    assert_eq!(Ok(a.sheet), sheet(P2));
+    assert_eq!(Ok(a.footprint), footprint(&counts, &marks, 10_000));
     assert_eq!((a.row_used, a.intrinsic, a.final_class), (5, 5, 4));
-    assert_eq!(assess(1_000, 49, 2_500, &counts, &marks, 10_000, 0, 0), Err(Refusal::Mass));
-    assert_eq!(assess(1_000, 10_000, 40_001, &counts, &marks, 10_000, 0, 0), Err(Refusal::Speed));
-    assert_eq!(assess(1_000, 10_000, 2_500, &counts, &marks, 10_000, 2, 0), Err(Refusal::ClassInput));
+    let controlled = assess(Question { controlled: true, ..question }).expect("P16 on controlled ground is accepted");
+    assert_eq!((controlled.row_used, controlled.intrinsic, controlled.final_class), (1, 1, 1));
+    let of_aircraft = |aircraft| assess(Question { aircraft, ..question });
+    assert_eq!(of_aircraft(Aircraft { mass: 49, ..P2 }), Err(Refusal::Mass));
+    assert_eq!(of_aircraft(Aircraft { speed: 40_001, ..P2 }), Err(Refusal::Speed));
+    assert_eq!(assess(Question { word: 0x4000, ..question }), Err(Refusal::Mitigation));
+}
+
+#[test]
+fn the_mark_of_line_1_is_judged_after_the_map() {
+    let (counts, marks) = one_cell(8, 0);
+    let head = CaseHead { aircraft: P2, cell_area: 10_000, controlled: 0, word: 0x1000 };
+    let question =
+        Question { aircraft: P2, counts: &counts, marks: &marks, cell_area: 10_000, controlled: false, word: 0x1000 };
+    for controlled in 0..=u8::MAX {
+        let head = CaseHead { controlled, ..head };
+        let mark = head.controlled_ground();
+        assert_eq!(
+            mark,
+            [Ok(false), Ok(true)].get(usize::from(controlled)).copied().unwrap_or(Err(Refusal::ClassInput))
+        );
+        let asked = mark.and_then(|controlled| assess(Question { controlled, ..question }));
+        assert_eq!(head.assess(&counts, &marks), asked);
+    }
+    let twice_wrong = CaseHead { controlled: 2, cell_area: 99, ..head };
+    assert_eq!(twice_wrong.assess(&counts, &marks), Err(Refusal::CellArea));
 }
 
 /// P16.
@@ -97,11 +136,22 @@ fn text() -> Vec<u8> {
 fn the_text_and_the_frame_are_as_long_as_document_01_says() {
     assert_eq!((MAP_CELLS, TEXT_LENGTH, FRAME_LENGTH, REFUSAL_LENGTH), (4_096, 33_959, 41, 3));
     assert_eq!((LINE_1_LENGTH, MARK_LINE, COUNT_LINE), (39, 17, 513));
-    assert_eq!(
-        (place_of(&FRAME, "refusal"), place_of(&FRAME, "people"), place_of(&FRAME, "final_class")),
-        (0..2, 28..36, 38..40)
-    );
-    assert_eq!((place_of(&LINE_1, "dimension"), place_of(&LINE_1, "word")), (0..8, 34..38));
+}
+
+#[test]
+fn fields_follow_one_another() {
+    type Place = fn(&str) -> Option<std::ops::Range<usize>>;
+    for (fields, place, length) in
+        [(&LINE_1[..], line_1_place as Place, LINE_1_LENGTH), (&FRAME, frame_place, FRAME_LENGTH)]
+    {
+        let mut start = 0;
+        for (name, digits) in fields {
+            assert_eq!(place(name), Some(start..start + digits));
+            start += digits;
+        }
+        assert_eq!(start + 1, length);
+        assert_eq!((place(""), place("lo"), place("lower")), (None, None, None));
+    }
 }
 
 struct Lent {
@@ -157,14 +207,13 @@ fn a_short_frame_buffer_changes_nothing() {
 #[test]
 fn line_1_is_read_and_frames_are_written() {
     let mut l = lent();
-    let head =
-        CaseHead { dimension: 1_000, mass: 10_000, speed: 2_500, cell_area: 10_000, controlled: 0, word: 0x1000 };
+    let head = CaseHead { aircraft: P2, cell_area: 10_000, controlled: 0, word: 0x1000 };
     assert_eq!(read_case(&text(), &mut l.counts, &mut l.marks), Ok(head));
     let fields = FrameFields {
         low: 1,
         high: 2,
         column: 3,
-        flag: 1,
+        flag: true,
         row_used: 4,
         place: 4_095,
         people: 5,
@@ -177,18 +226,133 @@ fn line_1_is_read_and_frames_are_written() {
     assert_eq!(&l.frame[..4], b"0a\n0");
 }
 
-#[test]
-fn refusals_are_found_by_their_numbers() {
-    for number in 0..=u8::MAX {
-        let found = Refusal::ALL.into_iter().find(|refusal| refusal.number() == number);
-        assert_eq!(Refusal::of_number(number), found);
-        assert_eq!(found.is_some(), (1..=Refusal::ALL.len()).contains(&usize::from(number)));
-    }
-    assert_eq!(Refusal::Mass.to_string(), "refusal 2: mass out of range: 50 to 25,000,000 g is allowed");
+/// What was read of a stored case, and the text.
+struct CaseFile {
+    text: Vec<u8>,
+    head: CaseHead,
+    counts: Vec<u32>,
+    marks: Vec<u64>,
+}
+
+fn case_file(name: &str) -> CaseFile {
+    let text =
+        std::fs::read(format!("{}/../../examples/{name}.case", env!("CARGO_MANIFEST_DIR"))).expect("it is stored");
+    let Lent { mut counts, mut marks, .. } = lent();
+    let head = read_case(&text, &mut counts, &mut marks).expect("a stored case can be read");
+    CaseFile { text, head, counts, marks }
 }
 
 #[test]
+fn a_written_assessment_is_the_printed_case() {
+    for name in ["farmhouses", "flagged", "refused"] {
+        let CaseFile { text, head, counts, marks } = case_file(name);
+        let answer = head.assess(&counts, &marks);
+        let (mut written, mut printed) = (lent(), lent());
+        let length = write_frame(answer.map(|assessment| FrameFields::from(&assessment)), &mut written.frame);
+        assert_eq!(length, Ok(if answer.is_ok() { FRAME_LENGTH } else { REFUSAL_LENGTH }));
+        assert_eq!(case(&text, &mut printed.counts, &mut printed.marks, &mut printed.frame).err(), answer.err());
+        assert_eq!(written.frame, printed.frame);
+        assert_eq!((counts, marks), (printed.counts, printed.marks));
+    }
+}
+
+#[test]
+fn empty_slices_are_refused() {
+    let Lent { mut counts, mut marks, mut frame } = lent();
+    assert_eq!(footprint(&[], &marks, 100), Err(Refusal::BufferLength));
+    assert_eq!(footprint(&counts, &[], 100), Err(Refusal::BufferLength));
+    let question = Question { aircraft: P2, counts: &[], marks: &[], cell_area: 100, controlled: true, word: 0 };
+    assert_eq!(assess(question), Err(Refusal::BufferLength));
+    assert_eq!(read_case(&[], &mut counts, &mut marks), Err(Refusal::TextLength));
+    assert_eq!(read_case(&text(), &mut [], &mut marks), Err(Refusal::BufferLength));
+    assert_eq!(read_case(&text(), &mut counts, &mut []), Err(Refusal::BufferLength));
+    assert_eq!(write_frame(Err(Refusal::Mass), &mut []), Err(Refusal::FrameLength));
+    assert_eq!(case(&[], &mut [], &mut [], &mut []), Err(Refusal::FrameLength));
+    assert_eq!(case(&[], &mut [], &mut [], &mut frame), Err(Refusal::TextLength));
+    assert_eq!(case(&text(), &mut [], &mut [], &mut frame), Err(Refusal::BufferLength));
+}
+
+#[test]
+fn refusals_are_found_by_their_numbers() {
+    for number in 0..=u8::MAX {
+        let found = Refusal::ALL.iter().copied().find(|&refusal| u8::from(refusal) == number);
+        match Refusal::try_from(number) {
+            Ok(refusal) => assert_eq!((Some(refusal), refusal.number()), (found, number)),
+            Err(error) => assert_eq!((None, error.number()), (found, number)),
+        }
+        assert_eq!(found.is_some(), (1..=15).contains(&number));
+    }
+}
+
+/// A number as messages have it, with a comma before each three digits.
+fn with_commas(number: usize) -> String {
+    match number {
+        0..=999 => number.to_string(),
+        _ => format!("{},{:03}", with_commas(number / 1_000), number % 1_000),
+    }
+}
+
+#[test]
+fn ranges_are_as_the_messages_say() {
+    type Refused<'a> = &'a dyn Fn(u32) -> Option<Refusal>;
+    let (counts, marks) = one_cell(1, 0);
+    let cell_area = |cell_area| footprint(&counts, &marks, cell_area).err();
+    let ranges: [(Refusal, u32, u32, Refused); 4] = [
+        (Refusal::Dimension, 50, 100_000, &|dimension| sheet(Aircraft { dimension, ..P2 }).err()),
+        (Refusal::Mass, 50, 25_000_000, &|mass| sheet(Aircraft { mass, ..P2 }).err()),
+        (Refusal::Speed, 0, 40_000, &|speed| sheet(Aircraft { speed, ..P2 }).err()),
+        (Refusal::CellArea, 100, 25_000_000, &cell_area),
+    ];
+    for (refusal, low, high, refused) in ranges {
+        let range = format!(" {} to {} ", with_commas(low as usize), with_commas(high as usize));
+        assert!(refusal.message().contains(&range), "{refusal}");
+        for allowed in [low, high] {
+            assert_ne!(refused(allowed), Some(refusal));
+        }
+        for wrong in [low.wrapping_sub(1), high + 1, u32::MAX] {
+            assert_eq!(refused(wrong), Some(refusal));
+        }
+    }
+}
+
+#[test]
+fn refusals_say_what_is_allowed() {
+    for refusal in Refusal::ALL {
+        let message = refusal.message();
+        assert!(message.contains(" allowed") || message.contains(" needed"), "{message}");
+        assert_eq!(refusal.to_string(), format!("refusal {}: {message}", refusal.number()));
+    }
+    for (refusal, length) in [
+        (Refusal::BufferLength, MAP_CELLS),
+        (Refusal::BufferLength, MAP_ROWS),
+        (Refusal::TextLength, TEXT_LENGTH),
+        (Refusal::FrameLength, FRAME_LENGTH),
+    ] {
+        assert!(refusal.message().contains(&format!(" {} ", with_commas(length))), "{refusal}");
+    }
+    assert_eq!(Refusal::Mass.to_string(), "refusal 2: mass out of range: 50 to 25,000,000 g is allowed");
+    assert_eq!(Refusal::try_from(0).map_err(|error| error.to_string()), Err("no refusal has number 0".to_string()));
+}
+
+/// A user passes them on by `?` and from thread to thread.
+#[test]
+fn refusals_are_errors() {
+    fn passed_on(number: u8) -> Result<Refusal, Box<dyn std::error::Error + Send + Sync>> {
+        let refusal = Refusal::try_from(number)?;
+        sheet(P2)?;
+        Ok(refusal)
+    }
+    assert_eq!(passed_on(4).expect("4 is a refusal"), Refusal::Area);
+    assert_eq!(passed_on(16).expect_err("16 isn't").to_string(), "no refusal has number 16");
+}
+
+#[allow(dead_code)]
+#[path = "../src/ffi.rs"]
+mod ffi;
+
+#[test]
 fn sizes_are_those_of_the_header() {
+    use ffi::*;
     use std::mem::size_of;
     let header = include_str!("../../include/nuggetbay.h");
     let sizes = [

@@ -1,0 +1,60 @@
+//! The example ends with the status that it promises, also where its words can't be written.
+
+use std::fs::File;
+use std::path::PathBuf;
+use std::process::{Command, Output, Stdio};
+
+/// The example. `cargo test` builds it beside this test; with `--test` it has to be there already.
+fn example() -> Command {
+    let test = std::env::current_exe().expect("a test knows its file");
+    let built = test.parent().and_then(|deps| deps.parent()).expect("it stands in the folder deps");
+    Command::new(built.join("examples/case"))
+}
+
+fn stored(name: &str) -> PathBuf {
+    [env!("CARGO_MANIFEST_DIR"), "../../examples", name].iter().collect()
+}
+
+fn ended(command: &mut Command) -> (Option<i32>, String) {
+    let Output { status, stderr, .. } = command.output().expect("cargo test builds the examples");
+    (status.code(), String::from_utf8_lossy(&stderr).into_owned())
+}
+
+#[test]
+fn answers_end_with_0_or_1() {
+    assert_eq!(ended(example().arg(stored("farmhouses.case"))), (Some(0), String::new()));
+    assert_eq!(ended(example().arg(stored("refused.case"))), (Some(1), String::new()));
+    assert_eq!(ended(example().arg(stored("farmhouses.frame"))), (Some(1), String::new()));
+}
+
+#[test]
+fn no_file_ends_with_2() {
+    assert_eq!(ended(&mut example()), (Some(2), "usage: case FILE\n".to_string()));
+    let (status, said) = ended(example().arg(stored("no.case")));
+    assert_eq!((status, said.lines().count()), (Some(2), 1));
+    assert!(said.starts_with("can't read "), "{said}");
+}
+
+/// A pipe that nobody reads any more.
+fn closed_pipe() -> Stdio {
+    let mut reader = Command::new("true").stdin(Stdio::piped()).spawn().expect("there is a program true");
+    let pipe = reader.stdin.take().expect("it was asked for");
+    reader.wait().expect("it ends");
+    pipe.into()
+}
+
+fn full_disk() -> Stdio {
+    File::options().write(true).open("/dev/full").expect("Linux has it").into()
+}
+
+#[test]
+fn words_that_cannot_be_written_end_with_2() {
+    for output in [closed_pipe, full_disk] {
+        for case in ["farmhouses.case", "refused.case"] {
+            let (status, said) = ended(example().arg(stored(case)).stdout(output()));
+            assert_eq!((status, said.lines().count()), (Some(2), 1), "{said}");
+            assert!(said.starts_with("can't write: "), "{said}");
+            assert_eq!(ended(example().arg(stored(case)).stdout(output()).stderr(output())), (Some(2), String::new()));
+        }
+    }
+}

@@ -1,0 +1,172 @@
+"""What `make install` puts in place serves programs outside the repository: README's own, the examples, and others, in C, C++, Rust
+and Python, against the archive and against the shared library. `make uninstall` takes all of it away again.
+
+usage: installed.py        the environment's MAKE, CC and CXX are used where they are set
+"""
+
+import ctypes
+import os
+import re
+import shutil
+import subprocess
+import sys
+import tempfile
+import unittest
+from pathlib import Path
+
+ROOT = Path(__file__).resolve().parents[2]
+sys.path.insert(0, str(ROOT / "console/tests"))
+
+import declarations as d      # noqa: E402
+
+# what runs here is no part of the make that may have started this
+for name in ("MAKEFLAGS", "MFLAGS", "MAKELEVEL"):
+    os.environ.pop(name, None)
+MAKE, CC, CXX = (os.environ.get(name, tool) for name, tool in (("MAKE", "make"), ("CC", "gcc"), ("CXX", "g++")))
+WARNINGS = ["-O1", "-Wall", "-Wextra", "-Wpedantic", "-Werror"]
+EXAMPLES = sorted((ROOT / "examples").glob("*.case"))
+HEADER = d.sources().header
+VERSION = d.version_of(HEADER)
+MAJOR = VERSION.split(".")[0]
+NUMBER = sum(int(part) * place for part, place in zip(VERSION.split("."), (10000, 100, 1)))
+FUNCTIONS = sorted([*d.read_header(HEADER).functions, "nb_version", "nb_refusal_message"])
+
+
+def messages():
+    said = dict(d.tables_of_header(HEADER).refusals) | {0: "not refused"}
+    return [said.get(number, "no such refusal") for number in range(256)]
+
+
+def done(*command, **settings):
+    return subprocess.run([str(word) for word in command], check=True, stdout=subprocess.PIPE, text=True, **settings).stdout
+
+
+def make(goal, **variables):
+    return subprocess.run([MAKE, "-C", ROOT, "--no-print-directory", goal, *(f"{name}={value}" for name, value in variables.items())],
+                          stdout=subprocess.PIPE, stderr=subprocess.STDOUT, text=True)
+
+
+def block_of_readme(language):
+    return re.search(rf"^```{language}\n(.*?)^```$", (ROOT / "README.md").read_text(), re.M | re.S)[1]
+
+
+def files_in(folder):
+    return sorted(str(path.relative_to(folder)) for path in folder.rglob("*") if not path.is_dir())
+
+
+class InstalledTest(unittest.TestCase):
+    @classmethod
+    def setUpClass(cls):
+        cls.place = Path(tempfile.mkdtemp())
+        cls.addClassCleanup(shutil.rmtree, cls.place)
+        cls.prefix = cls.place / "installed"
+        made = make("install", PREFIX=cls.prefix, DESTDIR="")
+        assert made.returncode == 0, made.stdout
+        cls.environment = os.environ | {"PKG_CONFIG_PATH": str(cls.prefix / "lib/pkgconfig"), "LD_LIBRARY_PATH": str(cls.prefix / "lib")}
+
+    def flags(self, *wanted):
+        return done("pkg-config", *wanted, "nuggetbay", env=self.environment).split()
+
+    def built(self, name, source, *compiler, static=False):
+        """A program made of this source in a folder of its own."""
+        program = self.place / name
+        libraries = [self.prefix / "lib/libnuggetbay.a"] if static else self.flags("--libs")
+        done(*compiler, *WARNINGS, *self.flags("--cflags"), source, *libraries, "-o", program, cwd=self.place)
+        needs = f"libnuggetbay.so.{MAJOR}" in done("readelf", "-d", program)
+        self.assertEqual(needs, not static)
+        return program
+
+    def crate(self, name, source):
+        """A program of a Rust package beside the installed one."""
+        folder = self.place / name
+        (folder / "src").mkdir(parents=True)
+        (folder / "src/main.rs").write_text(source)
+        (folder / "Cargo.toml").write_text(f'[package]\nname = "{name}"\nversion = "0.1.0"\nedition = "2021"\n[dependencies]\n'
+                                           f'nuggetbay = {{ path = "{self.prefix}/share/nuggetbay/rust" }}\n')
+        done("cargo", "build", "--offline", "--quiet", cwd=folder, env=os.environ | {"CARGO_TARGET_DIR": str(self.place / "cargo")})
+        return self.place / "cargo/debug" / name
+
+    def run_program(self, *command):
+        return subprocess.run([str(word) for word in command], stdout=subprocess.PIPE, stderr=subprocess.PIPE, text=True, env=self.environment)
+
+    def says_the_examples(self, program):
+        for text in EXAMPLES:
+            ran = self.run_program(program, text)
+            words = (ROOT / "console/examples" / f"{text.stem}.words").read_text()
+            self.assertEqual((ran.stdout, ran.returncode), (words, 1 if words.startswith("refusal ") else 0))
+        self.assertEqual(self.run_program(program).returncode, 2)
+        self.assertEqual(self.run_program(program, "/nowhere/at/all").returncode, 2)
+        with open("/dev/full", "w") as full:
+            ran = subprocess.run([program, EXAMPLES[0]], stdout=full, stderr=subprocess.PIPE, text=True, env=self.environment)
+        self.assertEqual((ran.returncode, ran.stderr.count("\n")), (2, 1), ran.stderr)
+
+    def test_the_files(self):
+        library = f"lib/libnuggetbay.so.{VERSION}"
+        rust = [f"share/nuggetbay/rust/{path}" for path in ("Cargo.toml", "build.rs")]
+        rust += [f"share/nuggetbay/rust/src/{path.name}" for path in (ROOT / "console/rust/src").glob("*.rs")]
+        self.assertEqual(files_in(self.prefix), sorted(["bin/nuggetbay-case", "include/nuggetbay.h", "lib/libnuggetbay.a", library,
+                                                        f"lib/libnuggetbay.so.{MAJOR}", "lib/libnuggetbay.so", "lib/pkgconfig/nuggetbay.pc", *rust]))
+        self.assertEqual(self.flags("--modversion"), [VERSION])
+        self.assertIn(f"[libnuggetbay.so.{MAJOR}]", done("readelf", "-d", self.prefix / library))
+
+    def test_only_the_functions_of_the_header_are_shown(self):
+        for options, library in ((["-D"], "libnuggetbay.so"), (["-g"], "libnuggetbay.a")):
+            shown = done("nm", *options, "--defined-only", "--format=posix", self.prefix / "lib" / library)
+            self.assertEqual(sorted(re.findall(r"^(\S+) [A-Z] ", shown, re.M)), FUNCTIONS)
+
+    def test_the_programs_of_readme(self):
+        source, wanted = self.place / "readme.c", block_of_readme("text").replace("$ ./console\n", "")
+        source.write_text(block_of_readme("c"))
+        for compiler in ([CC, "-std=c99"], [CC, "-std=c17"], [CXX, "-x", "c++", "-std=c++11"]):
+            self.assertEqual(self.run_program(self.built("readme", source, *compiler)).stdout, wanted)
+        self.assertEqual(self.run_program(self.crate("readme_rust", block_of_readme("rust"))).stdout, wanted)
+
+    def test_the_examples(self):
+        for static in (False, True):
+            self.says_the_examples(self.built("example", ROOT / "console/examples/case.c", CC, "-std=c99", static=static))
+        self.says_the_examples(self.crate("example_rust", (ROOT / "console/rust/examples/case.rs").read_text()))
+
+    def test_version_messages_and_nothing_lent(self):
+        wanted = [f"{NUMBER} {NUMBER}", *messages(), "5", "5", "13", "15"]
+        for compiler in ([CC, "-std=c99"], [CXX, "-x", "c++", "-std=c++98", "-Wno-long-long"], [CXX, "-x", "c++", "-std=c++17"]):
+            program = self.built("consumer", ROOT / "console/tests/consumer.c", *compiler)
+            self.assertEqual(self.run_program(program).stdout.splitlines(), wanted)
+
+    def test_python(self):
+        library = ctypes.CDLL(str(self.prefix / "lib/libnuggetbay.so"))
+        library.nb_version.restype, library.nb_refusal_message.restype = ctypes.c_uint32, ctypes.c_char_p
+        self.assertEqual(library.nb_version(), NUMBER)
+        self.assertEqual([library.nb_refusal_message(ctypes.c_uint8(number)).decode() for number in range(256)], messages())
+
+    def test_the_program(self):
+        for text in EXAMPLES:
+            with open(text, "rb") as file:
+                printed = subprocess.run([self.prefix / "bin/nuggetbay-case"], stdin=file, stdout=subprocess.PIPE).stdout
+            self.assertEqual(printed, text.with_suffix(".frame").read_bytes())
+
+    def test_uninstall_takes_every_file_away(self):
+        second = self.place / "second"
+        self.assertEqual(make("install", PREFIX=second, DESTDIR="").returncode, 0)
+        self.assertEqual(files_in(second), files_in(self.prefix))
+        self.assertEqual(make("uninstall", PREFIX=second, DESTDIR="").returncode, 0)
+        self.assertEqual(files_in(second), [])
+
+    def test_a_place_that_a_shell_takes_apart_is_refused(self):
+        for character in " \t,&\\'\"#;~*é":
+            place = self.place / f"unfit{character}place"
+            for variables in ({"PREFIX": place, "DESTDIR": ""}, {"PREFIX": "/usr", "DESTDIR": place}):
+                for goal in ("install", "uninstall"):
+                    made = make(goal, **variables)
+                    self.assertIn("PREFIX and DESTDIR may have letters, digits and ", made.stdout)
+                    self.assertNotEqual(made.returncode, 0)
+        self.assertEqual(list(self.place.glob("unfit*")), [])
+
+    def test_a_package_is_staged(self):
+        stage = self.place / "stage"
+        self.assertEqual(make("install", PREFIX="/usr", DESTDIR=stage).returncode, 0)
+        self.assertEqual(files_in(stage / "usr"), files_in(self.prefix))
+        self.assertIn("prefix=/usr\n", (stage / "usr/lib/pkgconfig/nuggetbay.pc").read_text())
+
+
+if __name__ == "__main__":
+    unittest.main(argv=sys.argv[:1])

@@ -1,0 +1,99 @@
+"""The pages' numbers: README's are the checker's (the fields of a case, the mitigation digits, the class table, the refusals, the frame
+that it explains), TRUST's are the header's and the repository's."""
+
+import re
+import sys
+import unittest
+from pathlib import Path
+
+ROOT = Path(__file__).resolve().parents[2]
+sys.path.insert(0, str(ROOT / "checker"))
+
+import case                   # noqa: E402
+import example_cases          # noqa: E402
+import ground_risk as g       # noqa: E402
+import stack                  # noqa: E402
+
+README, TRUST = ((ROOT / page).read_text() for page in ("README.md", "docs/TRUST.md"))
+RANGES = {"dimension": g.DIMENSION_RANGE, "mass": g.MASS_RANGE, "speed": g.SPEED_RANGE, "cell_area": g.CELL_AREA_RANGE}
+CREDITS = {"M1(A)": g.M1A_CREDITS, "M1(B)": g.M1B_CREDITS, "M1(C)": g.M1C_CREDITS, "M2": g.M2_CREDITS}
+
+
+def table(first):
+    """The rows below the heading that starts with this cell, as lists of cells."""
+    rows = README.split(f"\n| {first} ", 1)[1].split("\n\n", 1)[0].splitlines()[2:]
+    return [[cell.strip() for cell in row.strip("|").split("|")] for row in rows]
+
+
+class ReadmeTest(unittest.TestCase):
+    def test_line_1(self):
+        rows = table("Field of line 1")
+        self.assertEqual([int(digits) for _, digits, *_ in rows], [digits for _, digits in g.LINE_1])
+        for (name, _), (words, _, _, allowed) in zip(g.LINE_1, rows, strict=True):
+            self.assertIn(name.replace("_", " "), words)
+            if name in RANGES:
+                self.assertEqual(allowed, "{:,} to {:,}".format(*RANGES[name]))
+
+    def test_mitigation_digits(self):
+        said = {"none": 0, "1 off": 1, "2 off": 2, "not offered": None}
+        for name, *cells in table("Mitigation"):
+            credits = CREDITS.pop(name.split(",")[0])
+            self.assertEqual([said[cell] for cell in cells], [credits.get(digit) for digit in range(4)])
+        self.assertEqual(CREDITS, {})
+
+    def test_lengths(self):
+        lines = 1 + 2 * g.ROWS
+        self.assertIn(f"{g.TEXT_LENGTH:,} bytes in {lines} lines", README)
+        self.assertEqual(example_cases.farmhouses().count(b"\n"), lines)
+        self.assertIn(f"{g.ROWS} lines of {g.COLUMNS * 8} digits", README)
+        self.assertIn(f"0 to {g.LARGEST_COUNT:,} people", README)
+
+    def test_the_example(self):
+        self.assertIn(f"`{example_cases.farmhouses().splitlines()[0].decode()}`", README)
+        frame = re.search(r"^    ([0-9a-f ]+?) +\(printed without the spaces\)$", README, re.M)[1]
+        self.assertEqual(frame.replace(" ", "") + "\n", case.frame_of(example_cases.farmhouses()).decode())
+
+    def test_every_refusal_is_named(self):
+        listed = re.search(r"^Refusals: (.*)$", README, re.M)[1]
+        numbers = [int(number) for number in re.findall(r"(?:^|[,;] )(\d+) ", listed)]
+        self.assertEqual(numbers, list(g.REFUSALS))
+        self.assertIn(f"7 a count above {g.LARGEST_COUNT:,};", listed)
+
+    def test_the_class_table(self):
+        for row, _, *classes in table("Row"):
+            said = tuple(None if cell == "none" else int(cell) for cell in classes)
+            self.assertEqual(said, g.CLASS_TABLE[int(row)])
+        limits = ["{:,}".format(limit / 10_000).removesuffix(".0") for limit in g.AREA_LIMITS]
+        self.assertIn(f"(up to {', '.join(limits[:-1])} and {limits[-1]} m²)", README)
+
+    def test_nothing_is_left_to_fill_in(self):
+        self.assertNotIn("TIME_", README)
+
+    def test_what_is_pointed_at_is_there(self):
+        for path in re.findall(r"\]\(([^)#]+)\)", README) + re.findall(r"^    bash (\S+)", README, re.M):
+            self.assertTrue((ROOT / path).exists(), path)
+
+
+class TrustTest(unittest.TestCase):
+    def test_the_kit(self):
+        kit = (ROOT / ".ci/kit").read_text().strip()
+        for page in (README, TRUST):
+            self.assertIn(f"`{kit}`", page)
+        self.assertIn(f"`sum={kit.split()[-1]}`", TRUST)
+
+    def test_wrong_programs(self):
+        edits = [path.read_text() for path in ROOT.glob("crates/*/must-fail/*.edit")]
+        of_code = sum("file: src/" in edit for edit in edits)
+        self.assertIn(f"The {len(edits)} wrong programs of the gate", TRUST)
+        self.assertIn(f"{of_code} are of the code, which still compiles, and {len(edits) - of_code} of a definition or a claim", TRUST)
+
+    def test_the_stack(self):
+        said = stack.said_in((ROOT / "console/include/nuggetbay.h").read_text())
+        listed = re.search(r"at most (.*?) \|", TRUST)[1]
+        found = {name: int(number) for number, names in re.findall(r"(\d+)(?: bytes for)? ((?:`nb_\w+`(?: and )?)+)", listed)
+                 for name in re.findall(r"nb_\w+", names)}
+        self.assertEqual(found, said)
+
+
+if __name__ == "__main__":
+    unittest.main()
