@@ -30,7 +30,7 @@ extern "C" {
 /* The version of this header: the major number grows where an old signature or struct changes, the minor one where something
  * is new. A library serves a program that was built with this header where its major number is the same and nb_version() is at
  * least NB_VERSION. */
-#define NB_VERSION_MAJOR 2
+#define NB_VERSION_MAJOR 3
 #define NB_VERSION_MINOR 0
 #define NB_VERSION_PATCH 0
 #define NB_VERSION (NB_VERSION_MAJOR * 10000 + NB_VERSION_MINOR * 100 + NB_VERSION_PATCH)
@@ -77,9 +77,9 @@ uint32_t nb_version(void);
 /* A printed frame: its fields with their digits, in order, and its bytes, the line end among them. A printed refusal is the
  * first field and a line end. */
 #define NB_FRAME(FIELD) \
-    FIELD(refusal, 2) FIELD(low, 8) FIELD(high, 8) FIELD(column, 2) FIELD(flag, 2) FIELD(row_used, 2) FIELD(place, 4) \
-    FIELD(people, 8) FIELD(intrinsic, 2) FIELD(final_class, 2)
-#define NB_FRAME_LENGTH 41u
+    FIELD(refusal, 2) FIELD(low, 8) FIELD(high, 8) FIELD(column, 2) FIELD(flag, 2) FIELD(size_column, 2) FIELD(row_used, 2) \
+    FIELD(place, 4) FIELD(people, 8) FIELD(intrinsic, 2) FIELD(final_class, 2)
+#define NB_FRAME_LENGTH 43u
 #define NB_REFUSAL_LENGTH 3u
 
 /* ---- Refusals ---- */
@@ -100,7 +100,7 @@ uint32_t nb_version(void);
     R(12, NB_FINAL_CLASS, "final class too high: at most 7 is allowed") \
     R(13, NB_TEXT_SIZE, "wrong text length: 33,959 bytes are needed") \
     R(14, NB_TEXT_BYTE, "wrong byte in the text: lower-case hexadecimal digits, and byte 10 at the end of each line, are allowed") \
-    R(15, NB_FRAME_SIZE, "frame buffer too short: at least 41 bytes are needed")
+    R(15, NB_FRAME_SIZE, "frame buffer too short: at least 43 bytes are needed")
 
 #define NB_REFUSAL_NUMBER(number, name, message) name = number,
 enum nb_refusal { NB_REFUSALS(NB_REFUSAL_NUMBER) NB_ACCEPTED = 0 };
@@ -117,7 +117,11 @@ typedef struct {
     uint64_t high;
 } nb_bracket_t;
 
-/* Lines 1 to 6 of the sheet, the column of the class table and the flag. */
+/* Lines 1 to 6 of the sheet, the column of the class table, the flag and the size column.
+ *
+ * The size column is the first of five whose dimension and speed are both at least the aircraft's: 1,000 mm and 2,500 cm/s;
+ * 3,000 and 3,500; 8,000 and 7,500; 20,000 and 12,000; 40,000 and 20,000. It is there to be shown, so that crews can see why
+ * the area route was taken. The class comes from the area's column, never from the size column. */
 typedef struct {
     nb_bracket_t glide;  /* micrometres */
     nb_bracket_t run;    /* micrometres */
@@ -127,6 +131,7 @@ typedef struct {
     nb_bracket_t area;   /* the critical area, square centimetres */
     uint8_t column;      /* 1 to 5, from the high area */
     uint8_t flag;        /* 1 where the low area lies within the column before, so that the exact column may be that one; else 0 */
+    uint8_t size_column; /* 1 to 5; 0 where none of the five is large enough, and where refused */
 } nb_sheet_t;
 
 typedef struct {
@@ -220,15 +225,16 @@ nb_reading_t nb_read_case(const uint8_t *text, size_t text_len, uint32_t *counts
 /* The fields of a printed frame after its refusal, in its order; NB_FRAME has their digits. Of a number that has more digits
  * than its field, the last digits are printed; no accepted case has one. */
 typedef struct {
-    uint64_t low;       /* the low critical area */
-    uint64_t high;      /* the high critical area */
+    uint64_t low;        /* the low critical area */
+    uint64_t high;       /* the high critical area */
     uint8_t column;
     uint8_t flag;
-    uint8_t row_used;   /* the class table's row that was used */
+    uint8_t size_column; /* the sheet's, shown only; 0 where none is large enough */
+    uint8_t row_used;    /* the class table's row that was used */
     uint32_t place;
     uint64_t people;
     uint8_t intrinsic;
-    int8_t final_class; /* a negative class is printed ff */
+    int8_t final_class;  /* a negative class is printed ff */
 } nb_frame_fields_t;
 
 /* Writes a frame into a buffer of at least NB_FRAME_LENGTH bytes: with refusal 0 the digits 00, the fields and a line end,
