@@ -1,0 +1,19 @@
+-- Laws of the size column that a planner would check.
+use mathlib.Core.Logic.{_↔_}
+use Prim.Native.Nat.{ℕ, zero, suc, _+_, _≤_, _<_}
+use Rattle.columns.specs.Column.{columnCount}
+use Rattle.columns.specs.SizeColumn.{sizePairAt, sizeColumnOf}
+
+-- how high a size column stands: 0, where none is large enough, counts as the highest
+abbrev pub sizeRank : ℕ → ℕ
+sizeRank zero = columnCount + 1
+sizeRank (suc n) = suc n
+
+pub record SizeColumnPromise : Type 0 where
+  -- one of the five, or 0
+  pub in-table : (w v : ℕ) → sizeColumnOf w v ≤ columnCount
+  -- it is at most n + 1, and not 0, exactly when the pair of column n + 1 is large enough
+  pub at-most : (w v n : ℕ) → n < columnCount
+      → (1 ≤ sizeColumnOf w v) × (sizeColumnOf w v ≤ n + 1) ↔ (w ≤ sizePairAt n .dimension) × (v ≤ sizePairAt n .speed)
+  -- a dimension and a speed that aren't larger never give a higher one
+  pub grows : (w w′ v v′ : ℕ) → w ≤ w′ → v ≤ v′ → sizeRank (sizeColumnOf w v) ≤ sizeRank (sizeColumnOf w′ v′)
