@@ -1,7 +1,6 @@
 -- The laws of specs/SizeColumnPromise.antt hold.
 use mathlib.Core.Path.{_≡_, refl}
 use mathlib.Core.Bool.{true}
-use mathlib.Core.Logic.{_↔_}
 use Prim.Native.Nat.{ℕ, zero, suc, _+_, _≤_, _<_}
 use native.Mathlib.Nat.{le-trans}
 use native.Mathlib.Omega.{arith}
@@ -10,7 +9,7 @@ use borrow.Author.Tests.{leb-true, le-leb}
 use Rattle.arithmetic.proofs.TestLaws.{both}
 use Rattle.columns.specs.Column.{columnCount}
 use Rattle.columns.specs.SizeColumn.{sizePair, sizePairs, sizePairAt, largeEnough, sizeColumnOf}
-use Rattle.columns.specs.SizeColumnPromise.{sizeRank, SizeColumnPromise}
+use Rattle.columns.specs.SizeColumnPromise.{sizeRank, SizeColumnAtMost, SizeColumnPromise}
 use Rattle.columns.proofs.FirstInTable.{PassesOn, first-max, first-at-most}
 use Rattle.columns.proofs.GrowingTable.{grows}
 
@@ -35,8 +34,7 @@ large-on w v i k h l t =
     let at-i = large-to w v i t in
     large-from w v k (le-trans (at-i .0) (dimension-mono i k h l), le-trans (at-i .1) (speed-mono i k h l))
 
-at-most : (w v n : ℕ) → n < columnCount
-    → (1 ≤ sizeColumnOf w v) × (sizeColumnOf w v ≤ n + 1) ↔ (w ≤ sizePairAt n .dimension) × (v ≤ sizePairAt n .speed)
+at-most : (w v n : ℕ) → n < columnCount → SizeColumnAtMost w v n
 unfolding sizeColumnOf
 at-most w v n l =
     let by-first = first-at-most (sizePair 0 0) (largeEnough w v) sizePairs (large-on w v) n l in (

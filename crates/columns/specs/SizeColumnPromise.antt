@@ -9,11 +9,14 @@ abbrev pub sizeRank : ℕ → ℕ
 sizeRank zero = columnCount + 1
 sizeRank (suc n) = suc n
 
+-- it is at most n + 1, and not 0, exactly when the pair of column n + 1 is large enough
+abbrev pub SizeColumnAtMost : ℕ → ℕ → ℕ → Type 0
+SizeColumnAtMost w v n =
+    (1 ≤ sizeColumnOf w v) × (sizeColumnOf w v ≤ n + 1) ↔ (w ≤ sizePairAt n .dimension) × (v ≤ sizePairAt n .speed)
+
 pub record SizeColumnPromise : Type 0 where
   -- one of the five, or 0
   pub in-table : (w v : ℕ) → sizeColumnOf w v ≤ columnCount
-  -- it is at most n + 1, and not 0, exactly when the pair of column n + 1 is large enough
-  pub at-most : (w v n : ℕ) → n < columnCount
-      → (1 ≤ sizeColumnOf w v) × (sizeColumnOf w v ≤ n + 1) ↔ (w ≤ sizePairAt n .dimension) × (v ≤ sizePairAt n .speed)
+  pub at-most : (w v n : ℕ) → n < columnCount → SizeColumnAtMost w v n
   -- a dimension and a speed that aren't larger never give a higher one
   pub grows : (w w′ v v′ : ℕ) → w ≤ w′ → v ≤ v′ → sizeRank (sizeColumnOf w v) ≤ sizeRank (sizeColumnOf w′ v′)

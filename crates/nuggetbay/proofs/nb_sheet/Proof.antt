@@ -1,7 +1,5 @@
 -- `nb_sheet` gives the sheet with the aircraft's own size column, as `sheet_of` does.
-use mathlib.Core.Path.{_∙_, ap}
 use borrow.Author.Needs.{needs}
-use Rattle.sheet.specs.Sheet.{sizedSheet}
 use Rattle.nuggetbay.proofs.nb_sheet.Statement.{statement}
 use Rattle.nuggetbay.proofs.nb_sheet.Tie as tie
 
@@ -12,10 +10,7 @@ sized-sheet-requires : tie.Need-sized-sheet-requires
 sized-sheet-requires c κs = search needs
 
 returns : tie.Need-returns
-returns c =
-    let found = c .before in
-    let args = found .before .args in
-    c .sized-sheet .ensures ∙ ap (sizedSheet (args .dimension) (args .mass) (args .speed)) (found .size-column .ensures)
+returns c = cc
 
 pub nb-sheet-spec : {M : Type 1} → statement M
 nb-sheet-spec = tie.close (tie.spec size-column-requires sized-sheet-requires returns)

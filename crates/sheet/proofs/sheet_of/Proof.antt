@@ -1,7 +1,5 @@
 -- `sheet_of` gives the sheet with the aircraft's own size column.
-use mathlib.Core.Path.{_∙_, ap}
 use borrow.Author.Needs.{needs}
-use Rattle.sheet.specs.Sheet.{sizedSheet}
 use Rattle.sheet.proofs.sheet_of.Statement.{statement}
 use Rattle.sheet.proofs.sheet_of.Tie as tie
 
@@ -12,10 +10,7 @@ sized-sheet-requires : tie.Need-sized-sheet-requires
 sized-sheet-requires c κs = search needs
 
 returns : tie.Need-returns
-returns c =
-    let found = c .before in
-    let args = found .before .args in
-    c .sized-sheet .ensures ∙ ap (sizedSheet (args .dimension) (args .mass) (args .speed)) (found .size-column .ensures)
+returns c = cc
 
 pub sheet-of-spec : {M : Type 1} → statement M
 sheet-of-spec = tie.close (tie.spec size-column-requires sized-sheet-requires returns)
