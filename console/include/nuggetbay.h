@@ -45,14 +45,14 @@ uint32_t nb_version(void);
  * nb_case call, the return address is counted. This is so once names are bound: in a program that is linked with -Wl,-z,now or
  * statically, or runs with LD_BIND_NOW=1. Elsewhere the first call binds a name, which took some 3,100 bytes more where it was
  * tried. */
-#define NB_SHEET_STACK 56u
+#define NB_SHEET_STACK 64u
 #define NB_FOOTPRINT_STACK 448u
 #define NB_INTRINSIC_CLASS_STACK 136u
 #define NB_FINAL_CLASS_STACK 176u
-#define NB_ASSESS_STACK 864u
+#define NB_ASSESS_STACK 880u
 #define NB_READ_CASE_STACK 648u
-#define NB_WRITE_FRAME_STACK 96u
-#define NB_CASE_STACK 976u
+#define NB_WRITE_FRAME_STACK 56u
+#define NB_CASE_STACK 992u
 #define NB_REFUSAL_MESSAGE_STACK 8u
 #define NB_VERSION_STACK 8u
 
