@@ -6,4 +6,4 @@ pub mod CountedColumn
 pub mod ColumnAtMostHolds
 pub mod ExactColumnHolds
 pub mod SizeColumnLaws
-pub mod SizeColumnHolds
+pub mod SizeColumnPromiseHolds

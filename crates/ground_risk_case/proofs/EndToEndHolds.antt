@@ -16,7 +16,7 @@ use Rattle.arithmetic.proofs.RefusalLaws.{one-of-le, one-of-more, answered-one-
 use Rattle.arithmetic.proofs.TestLaws.{cond-le}
 use Rattle.columns.specs.Column.{lastLimit}
 use Rattle.columns.proofs.ColumnLaws.{column-max}
-use Rattle.columns.proofs.SizeColumnHolds.{size-column-promise}
+use Rattle.columns.proofs.SizeColumnPromiseHolds.{size-column-promise}
 use Rattle.sheet.specs.Sheet.{linesOf, sheetOf}
 use Rattle.sheet.specs.declared.SheetAnswer.{SheetAnswer}
 use Rattle.sheet.proofs.LineLaws.{lines-column, lines-size-column}
