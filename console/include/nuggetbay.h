@@ -121,7 +121,8 @@ typedef struct {
  *
  * The size column is the first of five whose dimension and speed are both at least the aircraft's: 1,000 mm and 2,500 cm/s;
  * 3,000 and 3,500; 8,000 and 7,500; 20,000 and 12,000; 40,000 and 20,000. It is there to be shown, so that crews can see why
- * the area route was taken. The class comes from the area's column, never from the size column. */
+ * the area route was taken: where it is higher than the column, or 0, dimension and speed alone would give a higher column, or
+ * none. The class comes from the area's column, never from the size column. */
 typedef struct {
     nb_bracket_t glide;  /* micrometres */
     nb_bracket_t run;    /* micrometres */
@@ -167,8 +168,8 @@ typedef struct {
     uint8_t class_number; /* 1 to 10; 0 where refused */
 } nb_intrinsic_class_t;
 
-/* The intrinsic ground risk class: column (1 to 5) of the sheet, row (2 to 7) of the footprint, controlled mark: 1 puts row
- * 1 (controlled ground) in place of the row, 0 keeps it.
+/* The intrinsic ground risk class: column (1 to 5), which is the sheet's column and not its size column, row (2 to 7) of the
+ * footprint, controlled mark: 1 puts row 1 (controlled ground) in place of the row, 0 keeps it.
  * Refusals: 9, 10. */
 nb_intrinsic_class_t nb_intrinsic_class(uint8_t column, uint8_t row, uint8_t controlled);
 
@@ -177,8 +178,8 @@ typedef struct {
     int8_t class_number; /* -1 to 7; 0 where refused, so look at the refusal first */
 } nb_final_class_t;
 
-/* The final ground risk class after mitigation: column (1 to 5), intrinsic class (an entry of that column) and the
- * mitigation word, whose four hexadecimal digits are M1(A), M1(B), M1(C), M2, with 0 none, 1 low, 2 medium, 3 high: 0x2212
+/* The final ground risk class after mitigation: column (1 to 5, the sheet's column), intrinsic class (an entry of that column)
+ * and the mitigation word, whose four hexadecimal digits are M1(A), M1(B), M1(C), M2, with 0 none, 1 low, 2 medium, 3 high: 0x2212
  * is M1(A) medium, M1(B) medium, M1(C) low, M2 medium. Offered are M1(A) 0 to 2, M1(B) 0, 2, 3, M1(C) 0, 1, M2 0, 2, 3.
  * Refusals: 9, 11, 12. */
 nb_final_class_t nb_final_class(uint8_t column, uint8_t class_number, uint16_t word);

@@ -257,7 +257,7 @@ class TablesTest(unittest.TestCase):
         version = d.version_of(REAL.header)
         self.in_header("#define NB_VERSION_MINOR ", "#define NB_VERSION_MINOR 9", f"the Rust package has version {version}, the header")
         self.differs(REAL._replace(package=once(REAL.package, f'"{version}"', '"0.0.1"')), "the Rust package has version 0.0.1, the header")
-        self.differs(REAL._replace(changes=once(REAL.changes, f"## {version} ", "## 0.0.1 ")), "CHANGELOG.md has version 0.0.1, the header")
+        self.differs(REAL._replace(changes=once(REAL.changes, f"## {version}\n", "## 0.0.1\n")), "CHANGELOG.md has version 0.0.1, the header")
 
     def test_refusals(self):
         for number, message in d.tables_of_header(REAL.header).refusals:

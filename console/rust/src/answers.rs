@@ -45,8 +45,8 @@ pub struct Sheet {
     /// The size column, 1 to 5: the first of five whose dimension and speed are both at least the aircraft's, `None` where none is
     /// large enough. The five are 1,000 mm and 2,500 cm/s; 3,000 and 3,500; 8,000 and 7,500; 20,000 and 12,000; 40,000 and 20,000.
     ///
-    /// It is there to be shown, so that crews can see why the area route was taken. The class comes from [`column`](Sheet::column),
-    /// never from it.
+    /// It is there to be shown, so that crews can see why the area route was taken: where it is higher than the column, or `None`,
+    /// dimension and speed alone would give a higher column, or none. The class comes from [`column`](Sheet::column), never from it.
     pub size_column: Option<u8>,
 }
 
@@ -122,7 +122,7 @@ pub struct FrameFields {
     pub column: u8,
     /// The sheet's flag, printed 01 or 00.
     pub flag: bool,
-    /// The sheet's size column; `None` is printed 00.
+    /// The sheet's size column; `None` is printed 00, and so is `Some(0)`, which no sheet has.
     pub size_column: Option<u8>,
     /// The row of the class table that was used.
     pub row_used: u8,

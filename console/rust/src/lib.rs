@@ -104,8 +104,8 @@ pub fn footprint(counts: &[u32], marks: &[u64], cell_area: u32) -> Result<Footpr
     Ok(answer.into())
 }
 
-/// The intrinsic ground risk class, 1 to 10: column (1 to 5) of the sheet and row (2 to 7) of the footprint. Controlled ground
-/// puts row 1 in place of the row.
+/// The intrinsic ground risk class, 1 to 10: column (1 to 5), which is the sheet's [`column`](Sheet::column) and not its size
+/// column, and row (2 to 7) of the footprint. Controlled ground puts row 1 in place of the row.
 ///
 /// # Errors
 ///
@@ -127,8 +127,8 @@ pub fn intrinsic_class(column: u8, row: u8, controlled: bool) -> Result<u8, Refu
     Ok(answer.class)
 }
 
-/// The final ground risk class after mitigation, -1 to 7: column (1 to 5), intrinsic class (an entry of that column) and the
-/// mitigation word.
+/// The final ground risk class after mitigation, -1 to 7: column (1 to 5, the sheet's [`column`](Sheet::column)), intrinsic class
+/// (an entry of that column) and the mitigation word.
 ///
 /// The four hexadecimal digits of the word are M1(A), M1(B), M1(C), M2, with 0 none, 1 low, 2 medium, 3 high: 0x2212 is M1(A)
 /// medium, M1(B) medium, M1(C) low, M2 medium. Offered are M1(A) 0 to 2, M1(B) 0, 2, 3, M1(C) 0, 1, M2 0, 2, 3.

@@ -278,7 +278,7 @@ fn case_file(name: &str) -> CaseFile {
 
 #[test]
 fn a_written_assessment_is_the_printed_case() {
-    for name in ["farmhouses", "flagged", "refused"] {
+    for name in ["farmhouses", "area_route", "flagged", "refused"] {
         let CaseFile { text, head, counts, marks } = case_file(name);
         let answer = head.assess(&counts, &marks);
         let (mut written, mut printed) = (lent(), lent());

@@ -1,11 +1,10 @@
 -- The column goes with the high area.
-use Prim.Native.Nat.{ℕ, _+_, _≤_, _<_}
+use Prim.Native.Nat.{ℕ}
 use native.Mathlib.Nat.{le-trans}
 use native.Mathlib.Omega.{arith}
-use mathlib.Core.Logic.{_↔_}
 use lib.Dec.{leb, lit<}
 use borrow.Author.Tests.{leb-true, le-leb}
-use Rattle.columns.specs.Column.{columnCount, limits, limitAt, lastLimit, columnBy, columnOf}
+use Rattle.columns.specs.Column.{limits, limitAt, lastLimit, columnBy, columnOf}
 use Rattle.columns.specs.ColumnAtMost.{ColumnAtMost}
 use Rattle.columns.proofs.FirstInTable.{PassesOn, first-at-most}
 use Rattle.columns.proofs.LimitLaws.{limit-mono}

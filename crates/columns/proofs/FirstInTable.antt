@@ -1,4 +1,4 @@
--- The walk over a table to the first entry that passes a test. Past the table's end d is read.
+-- The walk over a table to the first entry that passes a test. d stands for the entries past the table's end.
 use mathlib.Core.Path.{_≡_, refl, _∙_, sym}
 use mathlib.Core.Bool.{Bool, true, false, cond, true≢false}
 use mathlib.Core.List.{List, [], _∷_}
@@ -17,10 +17,10 @@ first-max p (x ∷ xs) j = cond-le (p x) (omega arith) (omega (arith, first-max 
 
 module _ {A : Type 0} (d : A) (p : A → Bool) where
   -- the walk from entry k on, by that entry and those after it
-  pub first-from : (xs : List A) (j k : ℕ) → k < length xs → firstFrom p j (drop k xs) ≡ cond (p (getD xs k d)) j (firstFrom p (suc j) (drop (suc k) xs))
-  first-from [] j k h = absurd (not-suc-le-zero h)
-  first-from (x ∷ xs) j zero h = refl
-  first-from (x ∷ xs) j (suc k) h = first-from xs j k (le-of-suc-le-suc h)
+  pub first-step : (xs : List A) (j k : ℕ) → k < length xs → firstFrom p j (drop k xs) ≡ cond (p (getD xs k d)) j (firstFrom p (suc j) (drop (suc k) xs))
+  first-step [] j k h = absurd (not-suc-le-zero h)
+  first-step (x ∷ xs) j zero h = refl
+  first-step (x ∷ xs) j (suc k) h = first-step xs j k (le-of-suc-le-suc h)
 
   -- entry k is the first that passes the test
   pub record FirstAt (xs : List A) (k : ℕ) : Type 0 where

@@ -5,5 +5,5 @@ pub mod ColumnLaws
 pub mod CountedColumn
 pub mod ColumnAtMostHolds
 pub mod ExactColumnHolds
-pub mod SizeColumnLaws
+pub mod SizeColumnFromLast
 pub mod SizeColumnPromiseHolds

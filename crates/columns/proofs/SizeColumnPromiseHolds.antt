@@ -1,6 +1,7 @@
 -- The laws of specs/SizeColumnPromise.antt hold.
 use mathlib.Core.Path.{_≡_, refl}
-use mathlib.Core.Bool.{true}
+use mathlib.Core.Bool.{Bool, true, false}
+use mathlib.Core.Logic.{_↔_}
 use Prim.Native.Nat.{ℕ, zero, suc, _+_, _≤_, _<_}
 use native.Mathlib.Nat.{le-trans}
 use native.Mathlib.Omega.{arith}
@@ -10,15 +11,15 @@ use Rattle.arithmetic.proofs.TestLaws.{both}
 use Rattle.columns.specs.Column.{columnCount}
 use Rattle.columns.specs.SizeColumn.{sizePair, sizePairs, sizePairAt, largeEnough, sizeColumnOf}
 use Rattle.columns.specs.SizeColumnPromise.{sizeRank, SizeColumnAtMost, SizeColumnPromise}
-use Rattle.columns.proofs.FirstInTable.{PassesOn, first-max, first-at-most}
-use Rattle.columns.proofs.GrowingTable.{grows}
+use Rattle.columns.proofs.FirstInTable.{PassesOn, first-max, first-none, first-at-most}
+use Rattle.columns.proofs.GrowingTable.{entries-grow}
 
 -- both numbers of the pairs grow
 dimension-mono : (i k : ℕ) → i ≤ k → k < columnCount → sizePairAt i .dimension ≤ sizePairAt k .dimension
-dimension-mono = grows (λ i. sizePairAt i .dimension) 4 refl
+dimension-mono = entries-grow (λ i. sizePairAt i .dimension) 4 refl
 
 speed-mono : (i k : ℕ) → i ≤ k → k < columnCount → sizePairAt i .speed ≤ sizePairAt k .speed
-speed-mono = grows (λ i. sizePairAt i .speed) 4 refl
+speed-mono = entries-grow (λ i. sizePairAt i .speed) 4 refl
 
 -- a pair is large enough exactly when both of its numbers are
 large-to : (w v n : ℕ) → largeEnough w v (sizePairAt n) ≡ true → (w ≤ sizePairAt n .dimension) × (v ≤ sizePairAt n .speed)
@@ -46,6 +47,19 @@ in-table : (w v : ℕ) → sizeColumnOf w v ≤ columnCount
 unfolding sizeColumnOf
 in-table w v = first-max (largeEnough w v) sizePairs 0
 
+none : (w v : ℕ) → sizeColumnOf w v ≡ 0 ↔ ((n : ℕ) → n < columnCount → largeEnough w v (sizePairAt n) ≡ false)
+none w v = (to, from)
+  where
+    to : sizeColumnOf w v ≡ 0 → (n : ℕ) → n < columnCount → largeEnough w v (sizePairAt n) ≡ false
+    to e n l = by-test (largeEnough w v (sizePairAt n)) refl
+      where
+        by-test : (t : Bool) → largeEnough w v (sizePairAt n) ≡ t → largeEnough w v (sizePairAt n) ≡ false
+        by-test true h = absurd (omega (arith, at-most w v n l .1 (large-to w v n h) .0))
+        by-test false h = h
+
+    from : ((n : ℕ) → n < columnCount → largeEnough w v (sizePairAt n) ≡ false) → sizeColumnOf w v ≡ 0
+    from h = unfold sizeColumnOf in first-none (sizePair 0 0) (largeEnough w v) sizePairs 1 h
+
 rank-at-most : (n : ℕ) → n ≤ columnCount → sizeRank n ≤ columnCount + 1
 rank-at-most zero h = omega arith
 rank-at-most (suc n) h = omega arith
@@ -66,6 +80,7 @@ rank-grows w w′ v v′ (suc n) e hw hv =
 pub size-column-promise : SizeColumnPromise
 size-column-promise =
     record {
+      none = none;
       in-table = in-table;
       at-most = at-most;
       grows = λ w w′ v v′. rank-grows w w′ v v′ (sizeColumnOf w′ v′) refl;

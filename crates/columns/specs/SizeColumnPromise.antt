@@ -1,8 +1,10 @@
 -- Laws of the size column that a planner would check.
+use mathlib.Core.Path.{_≡_}
+use mathlib.Core.Bool.{false}
 use mathlib.Core.Logic.{_↔_}
 use Prim.Native.Nat.{ℕ, zero, suc, _+_, _≤_, _<_}
 use Rattle.columns.specs.Column.{columnCount}
-use Rattle.columns.specs.SizeColumn.{sizePairAt, sizeColumnOf}
+use Rattle.columns.specs.SizeColumn.{sizePairAt, largeEnough, sizeColumnOf}
 
 -- how high a size column stands: 0, where none is large enough, counts as the highest
 abbrev pub sizeRank : ℕ → ℕ
@@ -15,7 +17,8 @@ SizeColumnAtMost w v n =
     (1 ≤ sizeColumnOf w v) × (sizeColumnOf w v ≤ n + 1) ↔ (w ≤ sizePairAt n .dimension) × (v ≤ sizePairAt n .speed)
 
 pub record SizeColumnPromise : Type 0 where
-  -- one of the five, or 0
+  -- "0 where none is large enough", and one of the five else
+  pub none : (w v : ℕ) → sizeColumnOf w v ≡ 0 ↔ ((n : ℕ) → n < columnCount → largeEnough w v (sizePairAt n) ≡ false)
   pub in-table : (w v : ℕ) → sizeColumnOf w v ≤ columnCount
   pub at-most : (w v n : ℕ) → n < columnCount → SizeColumnAtMost w v n
   -- a dimension and a speed that aren't larger never give a higher one

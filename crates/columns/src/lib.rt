@@ -1,4 +1,5 @@
-// The column of the class table and the flag, from an area between two numbers (document 01, "The aircraft and its area").
+// The column of the class table and the flag, from an area between two numbers (document 01, "The aircraft and its area"); the size
+// column, from a dimension and a speed (document 02, item 1).
 ghost use mathlib.Core.Path.{_≡_};
 ghost use Rattle.columns.specs.Column.{columnAndFlagOf};
 ghost use Rattle.columns.specs.SizeColumn.{sizeColumnOf};

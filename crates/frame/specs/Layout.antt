@@ -16,8 +16,8 @@ columnWidth = 2
 abbrev pub flagWidth : ℕ
 flagWidth = 2
 
-abbrev pub sizeWidth : ℕ
-sizeWidth = 2
+abbrev pub sizeColumnWidth : ℕ
+sizeColumnWidth = 2
 
 abbrev pub rowWidth : ℕ
 rowWidth = 2
@@ -46,11 +46,11 @@ columnStart = highStart + areaWidth
 abbrev pub flagStart : ℕ
 flagStart = columnStart + columnWidth
 
-abbrev pub sizeStart : ℕ
-sizeStart = flagStart + flagWidth
+abbrev pub sizeColumnStart : ℕ
+sizeColumnStart = flagStart + flagWidth
 
 abbrev pub rowStart : ℕ
-rowStart = sizeStart + sizeWidth
+rowStart = sizeColumnStart + sizeColumnWidth
 
 abbrev pub placeStart : ℕ
 placeStart = rowStart + rowWidth

@@ -18,7 +18,7 @@ const COLUMN_WIDTH: usize = 2;
 
 const FLAG_WIDTH: usize = 2;
 
-const SIZE_WIDTH: usize = 2;
+const SIZE_COLUMN_WIDTH: usize = 2;
 
 const ROW_WIDTH: usize = 2;
 
@@ -37,9 +37,9 @@ const COLUMN: usize = HIGH + AREA_WIDTH;
 
 const FLAG: usize = COLUMN + COLUMN_WIDTH;
 
-const SIZE: usize = FLAG + FLAG_WIDTH;
+const SIZE_COLUMN: usize = FLAG + FLAG_WIDTH;
 
-const ROW: usize = SIZE + SIZE_WIDTH;
+const ROW: usize = SIZE_COLUMN + SIZE_COLUMN_WIDTH;
 
 const PLACE: usize = ROW + ROW_WIDTH;
 
@@ -95,8 +95,8 @@ fn write_column_fields(buffer: &mut [u8], f: FrameFields)
     ensures { λ _. ⌜ now (buffer .exit) ≡ stored columnStart (written (take 4 (drop 3 (frameFields f)))) (now (buffer .entry)) ⌝ }
 {
     write_digits(&mut buffer[COLUMN..FLAG], f.column as u64);
-    write_digits(&mut buffer[FLAG..SIZE], f.flag as u64);
-    write_digits(&mut buffer[SIZE..ROW], f.size_column as u64);
+    write_digits(&mut buffer[FLAG..SIZE_COLUMN], f.flag as u64);
+    write_digits(&mut buffer[SIZE_COLUMN..ROW], f.size_column as u64);
     write_digits(&mut buffer[ROW..PLACE], f.row_used as u64);
 }
 

@@ -19,7 +19,7 @@ use Rattle.arithmetic.proofs.TestLaws.{lt-or-le, cond-le}
 use Rattle.columns.specs.Column.{columnBy, columnOf, flagOf}
 use Rattle.columns.specs.SizeColumn.{sizeColumnOf}
 use Rattle.sheet.specs.Lines.{runOf, savingOf, totalOf, formulaOf, areaOf}
-use Rattle.sheet.specs.Sheet.{withLines, sizedLines, sizedSheet}
+use Rattle.sheet.specs.Sheet.{withLines, linesWithSizeColumn, sheetWithSizeColumn}
 use Rattle.sheet.specs.Points.{sheetPoints}
 use Rattle.sheet.proofs.PointsHold.{sheet-points-hold}
 use Rattle.map.specs.Points.{rowPoints}
@@ -57,7 +57,7 @@ told a = record { refusal = a .refusal; fields = printedFields a }
 
 p16-assessment : (filled : MapBuffers) → P16Map (filled .counts) (filled .marks)
     → told (assessmentOf (questionOf p16Head filled)) ≡ record { refusal = 0; fields = p16Fields }
-unfolding assessmentOf assessedBy workingOn afterFootprint afterClass sizedSheet sizedLines withLines flagOf columnOf columnBy sizeColumnOf areaOf formulaOf totalOf savingOf runOf divUp intrinsicClassOf classAt finalClassOf creditAt anyBelow
+unfolding assessmentOf assessedBy workingOn afterFootprint afterClass sheetWithSizeColumn linesWithSizeColumn withLines flagOf columnOf columnBy sizeColumnOf areaOf formulaOf totalOf savingOf runOf divUp intrinsicClassOf classAt finalClassOf creditAt anyBelow
 p16-assessment filled h = rw (p16-footprint (filled .counts) (filled .marks) h)
 
 p16-line : printed 0 p16Fields ≡ p16Line

@@ -23,16 +23,16 @@ use risk_class::IntrinsicClass;
 use risk_class::final_class;
 use risk_class::intrinsic_class;
 use sheet::SheetAnswer;
-use sheet::sized_sheet;
+use sheet::sheet_with_size_column;
 
-// The aircraft's sheet, by the two calls that sheet_of makes. The compiler puts these in place here; sheet_of, which the assessment
-// calls too, it would call, and the answer would be copied.
+// The aircraft's sheet, by the two calls that sheet_of makes. sheet_of is too large for the compiler to put it in place at two callers,
+// and a call of it copies the answer; its two parts are small enough.
 #[no_mangle]
 pub extern "C" fn nb_sheet(dimension: u32, mass: u32, speed: u32) -> SheetAnswer
     ensures { λ r. ⌜ r ≡ sheetOf dimension mass speed ⌝ }
 {
     let size = size_column(dimension, speed);
-    sized_sheet(dimension, mass, speed, size)
+    sheet_with_size_column(dimension, mass, speed, size)
 }
 
 // The footprint on a lent map.

@@ -13,21 +13,21 @@ use Rattle.sheet.specs.Ranges.{dimensionMax, speedMax, InRange}
 use Rattle.sheet.specs.PrivateBounds.{glideMax, slideMax, totalMax, AtMost}
 use Rattle.sheet.specs.Lines.{fullWidth, glideOf, runOf, savingOf, slideOf, totalOf, formulaOf, areaOf}
 use Rattle.sheet.specs.declared.Sheet.{Sheet}
-use Rattle.sheet.specs.Sheet.{withLines, sizedLines, linesOf, refusedSheet, acceptedSheet, rangeTests, areaTests, sizedSheet}
+use Rattle.sheet.specs.Sheet.{withLines, linesWithSizeColumn, linesOf, refusedSheet, acceptedSheet, rangeTests, areaTests, sheetWithSizeColumn}
 use Rattle.sheet.proofs.LineBounds.{slide-max, total-max}
 use Rattle.sheet.proofs.RangeLaws.{range-passed}
 
 -- the area's test, after those of the ranges
 module _ (w m v size : ℕ) (ranges : InRange w m v) where
-  way-out : (n : ℕ) → FollowsFrom (areaTests (linesOf w m v)) n (cond (eqb n 0) (acceptedSheet (sizedLines w m v size)) (refusedSheet n) ≡ sizedSheet w m v size)
-  unfolding sizedSheet
+  way-out : (n : ℕ) → FollowsFrom (areaTests (linesOf w m v)) n (cond (eqb n 0) (acceptedSheet (linesWithSizeColumn w m v size)) (refusedSheet n) ≡ sheetWithSizeColumn w m v size)
+  unfolding sheetWithSizeColumn
   way-out = way-out-after _ _ (rangeTests w m v) (areaTests (linesOf w m v)) refl (sym (range-passed w m v ranges)) refl refl
 
-  area-refused : {area : Bracket} → area ≡ linesOf w m v .area → lastLimit < area .high → refusedSheet 4 ≡ sizedSheet w m v size
+  area-refused : {area : Bracket} → area ≡ linesOf w m v .area → lastLimit < area .high → refusedSheet 4 ≡ sheetWithSizeColumn w m v size
   area-refused e h = way-out 4 (rw e at (lt-ltb _ _ h))
 
-  area-accepted : {s : Sheet} → s ≡ sizedLines w m v size → s .area .high ≤ lastLimit → acceptedSheet s ≡ sizedSheet w m v size
-  unfolding sizedLines withLines
+  area-accepted : {s : Sheet} → s ≡ linesWithSizeColumn w m v size → s .area .high ≤ lastLimit → acceptedSheet s ≡ sheetWithSizeColumn w m v size
+  unfolding linesWithSizeColumn withLines
   area-accepted e h = rw e (way-out 0 (rw e at (le-ltb _ _ h)))
 
 pub glide-fits : {glide : Bracket} → glide ≡ glideOf → AtMost glide glideMax
@@ -42,11 +42,11 @@ module _ (m v : ℕ) {run saving slide : Bracket} (r : run ≡ runOf v) (k : sav
     total-fits hw hv = rw (t, g, s, r, k) (total-max w m v hw hv)
 
     module _ {area : Bracket} (a : area ≡ areaOf (formulaOf w) (fullWidth w) glide total) (size : ℕ) (ranges : InRange w m v) where
-      pub refused-4 : lastLimit < area .high → refusedSheet 4 ≡ sizedSheet w m v size
-      unfolding sizedLines withLines
+      pub refused-4 : lastLimit < area .high → refusedSheet 4 ≡ sheetWithSizeColumn w m v size
+      unfolding linesWithSizeColumn withLines
       refused-4 = area-refused w m v size ranges {area = area} (cc)
 
       pub accepted : {found : ColumnAndFlag} → found ≡ columnAndFlagOf area → area .high ≤ lastLimit →
-          acceptedSheet (record { glide = glide; run = run; saving = saving; slide = slide; total = total; area = area; column = found .column; flag = found .flag; «size_column» = size }) ≡ sizedSheet w m v size
-      unfolding sizedLines withLines
+          acceptedSheet (record { glide = glide; run = run; saving = saving; slide = slide; total = total; area = area; column = found .column; flag = found .flag; «size_column» = size }) ≡ sheetWithSizeColumn w m v size
+      unfolding linesWithSizeColumn withLines
       accepted f = area-accepted w m v size ranges (cc)

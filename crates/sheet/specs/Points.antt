@@ -1,19 +1,19 @@
--- The worked points P1 to P8 of document 01, with the size column of document 02, item 1.
+-- The worked points P1 to P8 of document 01. Their size columns are worked by us; document 02, item 1, gives that of P2's aircraft, "01 at P16".
 use mathlib.Core.Path.{_≡_}
 use mathlib.Core.List.{List, [], _∷_}
 use Prim.Native.Nat.{ℕ}
 use Rattle.sheet.specs.Sheet.{sheetOf}
 
 -- what the table shows of a sheet
-pub record AreaFigures : Type 0 where
+pub record SheetFigures : Type 0 where
   pub refusal : ℕ
   pub low : ℕ
   pub high : ℕ
   pub column : ℕ
   pub size-column : ℕ
 
-unfoldable pub areaFigures : ℕ → ℕ → ℕ → AreaFigures
-areaFigures w m v =
+unfoldable pub sheetFigures : ℕ → ℕ → ℕ → SheetFigures
+sheetFigures w m v =
     let answer = sheetOf w m v
     in record { refusal = answer .refusal; low = answer .sheet .area .low; high = answer .sheet .area .high; column = answer .sheet .column; size-column = answer .sheet .«size_column» }
 
@@ -22,10 +22,10 @@ pub record SheetPoint : Type 0 where
   pub w : ℕ
   pub m : ℕ
   pub v : ℕ
-  pub figures : AreaFigures
+  pub figures : SheetFigures
 
 abbrev pub SheetPointHolds : SheetPoint → Type 0
-SheetPointHolds p = areaFigures (p .w) (p .m) (p .v) ≡ p .figures
+SheetPointHolds p = sheetFigures (p .w) (p .m) (p .v) ≡ p .figures
 
 abbrev accepted : ℕ → ℕ → ℕ → ℕ → ℕ → ℕ → ℕ → SheetPoint
 accepted w m v low high column size =

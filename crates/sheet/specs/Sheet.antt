@@ -30,15 +30,15 @@ withLines run saving slide total area size =
     }
 
 -- "all six lines are filled at every dimension"
-unfoldable pub sizedLines : ℕ → ℕ → ℕ → ℕ → Sheet
-sizedLines w m v size =
+unfoldable pub linesWithSizeColumn : ℕ → ℕ → ℕ → ℕ → Sheet
+linesWithSizeColumn w m v size =
     let slide = slideOf (runOf v) (savingOf m)
     in let total = totalOf (fullWidth w) glideOf slide
     in withLines (runOf v) (savingOf m) slide total (areaOf (formulaOf w) (fullWidth w) glideOf total) size
 
 -- the aircraft's own size column; nothing is judged by it: "The class still comes from the area." (document 02, item 1)
 abbrev pub linesOf : ℕ → ℕ → ℕ → Sheet
-linesOf w m v = sizedLines w m v (sizeColumnOf w v)
+linesOf w m v = linesWithSizeColumn w m v (sizeColumnOf w v)
 
 -- "a refused sheet is all zeros"
 abbrev pub zeroSheet : Sheet
@@ -89,10 +89,10 @@ areaTests s = 4 when areaTooLarge s ∷ []
 abbrev pub sheetTests : ℕ → ℕ → ℕ → List Test
 sheetTests w m v = rangeTests w m v ++ areaTests (linesOf w m v)
 
--- the sheet of an aircraft with a size column, or its refusal
-unfoldable pub sizedSheet : ℕ → ℕ → ℕ → ℕ → SheetAnswer
-sizedSheet w m v size = answered (sheetTests w m v) (acceptedSheet (sizedLines w m v size)) refusedSheet
+-- the sheet of an aircraft with any size column, or its refusal. Apart from sheetOf for the boundary's sake (DECISIONS 44).
+unfoldable pub sheetWithSizeColumn : ℕ → ℕ → ℕ → ℕ → SheetAnswer
+sheetWithSizeColumn w m v size = answered (sheetTests w m v) (acceptedSheet (linesWithSizeColumn w m v size)) refusedSheet
 
--- the sheet of an aircraft, or its refusal
+-- the sheet of an aircraft, with its own size column, or its refusal
 abbrev pub sheetOf : ℕ → ℕ → ℕ → SheetAnswer
-sheetOf w m v = sizedSheet w m v (sizeColumnOf w v)
+sheetOf w m v = sheetWithSizeColumn w m v (sizeColumnOf w v)

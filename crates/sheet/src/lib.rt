@@ -2,7 +2,7 @@
 ghost use mathlib.Core.Path.{_≡_};
 ghost use Rattle.arithmetic.specs.Refusals.{firstRefusal};
 ghost use Rattle.sheet.specs.Ranges.{InRange};
-ghost use Rattle.sheet.specs.Sheet.{zeroSheet, refusedSheet, rangeTests, sizedSheet, sheetOf};
+ghost use Rattle.sheet.specs.Sheet.{zeroSheet, refusedSheet, rangeTests, sheetWithSizeColumn, sheetOf};
 
 mod lines;
 
@@ -97,7 +97,7 @@ fn refused_with(refusal: u8) -> SheetAnswer
 // The sheet of an aircraft within its ranges, or refusal 4.
 fn sheet_in_range(dimension: u64, mass: u64, speed: u64, size_column: u8) -> SheetAnswer
     requires { ⌜ InRange dimension mass speed ⌝ }
-    ensures { λ r. ⌜ r ≡ sizedSheet dimension mass speed «size_column» ⌝ }
+    ensures { λ r. ⌜ r ≡ sheetWithSizeColumn dimension mass speed «size_column» ⌝ }
 {
     let glide = glide();
     let run = run(speed);
@@ -123,10 +123,9 @@ fn sheet_in_range(dimension: u64, mass: u64, speed: u64, size_column: u8) -> She
     SheetAnswer { refusal: 0, sheet }
 }
 
-// The sheet of an aircraft with this size column: dimension in mm, mass in g, speed in cm/s. Refusals: 1 dimension, 2 mass, 3 speed,
-// 4 area.
-pub fn sized_sheet(dimension: u32, mass: u32, speed: u32, size_column: u8) -> SheetAnswer
-    ensures { λ r. ⌜ r ≡ sizedSheet dimension mass speed «size_column» ⌝ }
+// sheet_of with any size column in the aircraft's own place: small enough for the compiler to put it in place at two callers.
+pub fn sheet_with_size_column(dimension: u32, mass: u32, speed: u32, size_column: u8) -> SheetAnswer
+    ensures { λ r. ⌜ r ≡ sheetWithSizeColumn dimension mass speed «size_column» ⌝ }
 {
     let refusal = Sheet::range_refusal(dimension, mass, speed);
     if refusal != 0 {
@@ -135,10 +134,10 @@ pub fn sized_sheet(dimension: u32, mass: u32, speed: u32, size_column: u8) -> Sh
     sheet_in_range(dimension as u64, mass as u64, speed as u64, size_column)
 }
 
-// The sheet of an aircraft.
+// The sheet of an aircraft: dimension in mm, mass in g, speed in cm/s. Refusals: 1 dimension, 2 mass, 3 speed, 4 area.
 pub fn sheet_of(dimension: u32, mass: u32, speed: u32) -> SheetAnswer
     ensures { λ r. ⌜ r ≡ sheetOf dimension mass speed ⌝ }
 {
     let size = size_column(dimension, speed);
-    sized_sheet(dimension, mass, speed, size)
+    sheet_with_size_column(dimension, mass, speed, size)
 }

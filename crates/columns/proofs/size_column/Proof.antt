@@ -2,7 +2,7 @@
 use mathlib.Core.Path.{_≡_, sym, _∙_}
 use Prim.Native.Nat.{suc, _-_, _≤_}
 use native.Mathlib.Omega.{arith}
-use Rattle.columns.proofs.SizeColumnLaws.{sizeColumnFrom, by-no-pair, by-all-pairs, pair-large-enough, pair-too-small}
+use Rattle.columns.proofs.SizeColumnFromLast.{sizeColumnFrom, by-no-pair, by-all-pairs, pair-large-enough, pair-too-small}
 use Rattle.columns.proofs.size_column.Statement.{statement}
 use Rattle.columns.proofs.size_column.Tie as tie
 

@@ -1,11 +1,11 @@
--- `sized_sheet` gives the sheet with its size column, or its refusal.
+-- `sheet_with_size_column` gives the sheet with its size column, or its refusal.
 use mathlib.Core.Path.{refl, sym, _∙_}
 use borrow.Author.Needs.{needs}
 use Rattle.arithmetic.proofs.RefusalLaws.{refused-before}
-use Rattle.sheet.specs.Sheet.{linesOf, sizedLines, refusedSheet, acceptedSheet, rangeTests, areaTests, sizedSheet}
+use Rattle.sheet.specs.Sheet.{linesOf, linesWithSizeColumn, refusedSheet, acceptedSheet, rangeTests, areaTests, sheetWithSizeColumn}
 use Rattle.sheet.proofs.RangeLaws.{in-range}
-use Rattle.sheet.proofs.sized_sheet.Statement.{statement}
-use Rattle.sheet.proofs.sized_sheet.Tie as tie
+use Rattle.sheet.proofs.sheet_with_size_column.Statement.{statement}
+use Rattle.sheet.proofs.sheet_with_size_column.Tie as tie
 
 range-refusal-requires : tie.Need-range-refusal-requires
 range-refusal-requires c κs = search needs
@@ -14,11 +14,11 @@ refused-with-requires : tie.Need-refused-with-requires
 refused-with-requires c κs = search needs
 
 returns : tie.Need-returns
-unfolding sizedSheet
+unfolding sheetWithSizeColumn
 returns c =
     let ranges = c .before .before in
     let args = ranges .before .args in
-    let lines = sizedLines (args .dimension) (args .mass) (args .speed) (args .size-column) in
+    let lines = linesWithSizeColumn (args .dimension) (args .mass) (args .speed) (args .size-column) in
     let areas = areaTests (linesOf (args .dimension) (args .mass) (args .speed)) in
     c .refused-with .ensures
     ∙ refused-before (acceptedSheet lines) refusedSheet (rangeTests (args .dimension) (args .mass) (args .speed)) areas refl (ranges .range-refusal .ensures) (c .before .if1 .taken)
@@ -30,8 +30,8 @@ sheet-in-range-requires c κs =
 returns-2 : tie.Need-returns-2
 returns-2 c = c .sheet-in-range .ensures
 
-pub sized-sheet-spec : {M : Type 1} → statement M
-sized-sheet-spec =
+pub sheet-with-size-column-spec : {M : Type 1} → statement M
+sheet-with-size-column-spec =
     tie.close
     (tie.spec
     range-refusal-requires

@@ -2,11 +2,10 @@
 use mathlib.Core.Path.{_≡_, refl}
 use mathlib.Core.Bool.{true, false}
 use Prim.Native.Nat.{ℕ, suc, _<_}
-use native.Mathlib.Omega.{arith}
-use lib.ListN.{getD, drop}
+use lib.ListN.{drop}
 use Rattle.columns.specs.Column.{columnCount, firstFrom}
 use Rattle.columns.specs.SizeColumn.{sizePair, sizePairs, sizePairAt, largeEnough, sizeColumnOf}
-use Rattle.columns.proofs.FirstInTable.{first-from}
+use Rattle.columns.proofs.FirstInTable.{first-step}
 
 -- the size column by the pairs from k on
 unfoldable pub sizeColumnFrom : ℕ → ℕ → ℕ → ℕ
@@ -24,8 +23,8 @@ module _ (w v : ℕ) where
   module _ (k : ℕ) (inside : k < columnCount) where
     pub pair-large-enough : largeEnough w v (sizePairAt k) ≡ true → suc k ≡ sizeColumnFrom w v k
     unfolding sizeColumnFrom
-    pair-large-enough e = rw (first-from (sizePair 0 0) (largeEnough w v) sizePairs (suc k) k inside, e)
+    pair-large-enough e = rw (first-step (sizePair 0 0) (largeEnough w v) sizePairs (suc k) k inside, e)
 
     pub pair-too-small : largeEnough w v (sizePairAt k) ≡ false → sizeColumnFrom w v (suc k) ≡ sizeColumnFrom w v k
     unfolding sizeColumnFrom
-    pair-too-small e = rw (first-from (sizePair 0 0) (largeEnough w v) sizePairs (suc k) k inside, e)
+    pair-too-small e = rw (first-step (sizePair 0 0) (largeEnough w v) sizePairs (suc k) k inside, e)
