@@ -1,5 +1,5 @@
 -- The lines as the code makes them, each from those before it: their bounds, and the answer that they make.
-use mathlib.Core.Path.{_≡_, refl, sym}
+use mathlib.Core.Path.{_≡_, refl, sym, ap, _∙_}
 use mathlib.Core.Bool.{cond}
 use Prim.Native.Nat.{ℕ, _≤_, _<_}
 use native.Mathlib.Omega.{arith}
@@ -7,13 +7,15 @@ use borrow.Author.Tests.{lt-ltb, le-ltb}
 use lib.Dec.{eqb}
 use Rattle.arithmetic.proofs.RefusalLaws.{FollowsFrom, way-out-after}
 use Rattle.columns.specs.Column.{lastLimit, columnAndFlagOf}
+use Rattle.columns.specs.SizeColumn.{sizeColumnOf}
 use Rattle.columns.specs.declared.Bracket.{Bracket}
 use Rattle.columns.specs.declared.ColumnAndFlag.{ColumnAndFlag}
 use Rattle.sheet.specs.Ranges.{dimensionMax, speedMax, InRange}
 use Rattle.sheet.specs.PrivateBounds.{glideMax, slideMax, totalMax, AtMost}
 use Rattle.sheet.specs.Lines.{fullWidth, glideOf, runOf, savingOf, slideOf, totalOf, formulaOf, areaOf}
 use Rattle.sheet.specs.declared.Sheet.{Sheet}
-use Rattle.sheet.specs.Sheet.{withLines, linesWithSizeColumn, linesOf, refusedSheet, acceptedSheet, rangeTests, areaTests, sheetWithSizeColumn}
+use Rattle.sheet.specs.declared.SheetAnswer.{SheetAnswer}
+use Rattle.sheet.specs.Sheet.{withLines, linesWithSizeColumn, linesOf, refusedSheet, acceptedSheet, rangeTests, areaTests, sheetWithSizeColumn, sheetOf}
 use Rattle.sheet.proofs.LineBounds.{slide-max, total-max}
 use Rattle.sheet.proofs.RangeLaws.{range-passed}
 
@@ -50,3 +52,7 @@ module _ (m v : ℕ) {run saving slide : Bracket} (r : run ≡ runOf v) (k : sav
           acceptedSheet (record { glide = glide; run = run; saving = saving; slide = slide; total = total; area = area; column = found .column; flag = found .flag; «size_column» = size }) ≡ sheetWithSizeColumn w m v size
       unfolding linesWithSizeColumn withLines
       accepted f = area-accepted w m v size ranges (cc)
+
+-- the two calls that make a sheet: the aircraft's size column, and the sheet with it
+pub with-own-size-column : (w m v : ℕ) {size : ℕ} {answer : SheetAnswer} → size ≡ sizeColumnOf w v → answer ≡ sheetWithSizeColumn w m v size → answer ≡ sheetOf w m v
+with-own-size-column w m v e f = f ∙ ap (sheetWithSizeColumn w m v) e
