@@ -29,6 +29,12 @@ def farmhouses():
     return text((1_000, 10_000, 2_500), 0x1000, block_of_marks(range(0, 1), range(0, 1)), {(0, 0): 8})
 
 
+def area_route():
+    """A wing that is small enough for column 2 by its area, though not by its dimension."""
+    people = {(9, 40): 2, (10, 41): 4, (12, 44): 1}
+    return text((3_400, 25_000, 2_500), 0x0002, block_of_marks(range(8, 13), range(40, 46)), people)
+
+
 def flagged():
     """A flagged aircraft over a few houses."""
     people = {(20, 30): 3, (21, 31): 12, (22, 33): 12, (23, 35): 1, (21, 36): 40}
@@ -41,7 +47,7 @@ def refused():
     return text((4_000, 60_000, 4_000), 0x0000, block_of_marks(range(28, 33), range(8, 16)), people)
 
 
-EXAMPLES = {"farmhouses": farmhouses, "flagged": flagged, "refused": refused}
+EXAMPLES = {"farmhouses": farmhouses, "area_route": area_route, "flagged": flagged, "refused": refused}
 
 
 if __name__ == "__main__":

@@ -1,14 +1,16 @@
-"""The ground risk sheet, written a second time from document 01.
+"""The ground risk sheet, written a second time from documents 01 and 02.
 
 This says what every operation must answer, for every input. It is written to
-be read beside the paper, not to be fast. Quoted sentences are document 01's.
+be read beside the papers, not to be fast. Quoted sentences are document 01's,
+or those of the item of document 02 that is named before them.
 """
 
 from collections import namedtuple
 from fractions import Fraction
 from typing import NamedTuple
 
-# Every refusal, in the words of document 01's lists.
+# Every refusal, in the words of document 01's lists. Document 02 item 1:
+# "refusal 15 now speaks of 43 bytes."
 REFUSALS = {
     1: "dimension outside its range",
     2: "mass",
@@ -24,7 +26,7 @@ REFUSALS = {
     12: "a final class above 7",
     13: "length other than 33,959",
     14: "a byte that isn't a digit or line end in its place",
-    15: "a buffer shorter than 41 bytes, for refused cases too",
+    15: "a buffer shorter than 43 bytes, for refused cases too",
 }
 
 # ---------------------------------------------------------------------------
@@ -39,6 +41,10 @@ SPEED_RANGE = (0, 40_000)
 
 # "65,000; 650,000; 6,500,000; 65,000,000; 650,000,000 square centimetres."
 AREA_LIMITS = (65_000, 650_000, 6_500_000, 65_000_000, 650_000_000)
+
+# Document 02 item 1: "The pairs are 1,000 mm and 2,500 cm/s; 3,000 and 3,500;
+#  8,000 and 7,500; 20,000 and 12,000; 40,000 and 20,000."
+SIZE_PAIRS = ((1_000, 2_500), (3_000, 3_500), (8_000, 7_500), (20_000, 12_000), (40_000, 20_000))
 
 # "tan is 0.7002075382, cos is 0.8191520443 (35 degrees, ten places; these
 #  decimals are the definition)."
@@ -127,6 +133,14 @@ def exact_column(w, m, v):
     return 0 if area is None else first_column(area)
 
 
+def size_column(w, v):
+    # Document 02 item 1: "the first of five whose dimension and speed are both
+    #  at least the aircraft's"; "It is 0 where none is large enough."
+    columns = [column for column, (dimension, speed) in enumerate(SIZE_PAIRS, 1)
+               if dimension >= w and speed >= v]
+    return columns[0] if columns else 0
+
+
 class Line(NamedTuple):
     low: int
     high: int
@@ -143,12 +157,15 @@ class Sheet(NamedTuple):
     area: Line
     column: int
     flag: int
+    # Document 02 item 1: "The sheet's record gains a size column"; "The class
+    #  still comes from the area", by column: nothing is worked out from this.
+    size_column: int
 
 
 def refused_sheet(refusal):
     # "a refused sheet is all zeros."
     return Sheet(refusal, Line(0, 0), Line(0, 0), Line(0, 0), Line(0, 0),
-                 Line(0, 0), Line(0, 0), 0, 0)
+                 Line(0, 0), Line(0, 0), 0, 0, 0)
 
 
 def glide_line():
@@ -223,7 +240,7 @@ def sheet(w, m, v):
     # "The flag is 1 when the column isn't the first and the low area is at
     #  most the limit before it, otherwise 0."
     flag = 1 if column != 1 and area.low <= AREA_LIMITS[column - 2] else 0
-    return Sheet(0, glide, run, saving, slide, t, area, column, flag)
+    return Sheet(0, glide, run, saving, slide, t, area, column, flag, size_column(w, v))
 
 
 # ---------------------------------------------------------------------------
@@ -565,11 +582,12 @@ def text_of_fields(fields, lent):
 
 # "The printed frame has 40 digits and a line end: 00; low 8; high 8; column 2;
 #  flag 2; table row used 2; place 4; people 8; intrinsic class 2; final class 2
-#  (−1 is ff)."
-FRAME = (("low", 8), ("high", 8), ("column", 2), ("flag", 2), ("row_used", 2), ("place", 4),
-         ("people", 8), ("intrinsic", 2), ("final_class", 2))
+#  (−1 is ff)." Document 02 item 1: "The printed frame gains two digits for it
+#  after the flag": 42 digits and a line end.
+FRAME = (("low", 8), ("high", 8), ("column", 2), ("flag", 2), ("size_column", 2), ("row_used", 2),
+         ("place", 4), ("people", 8), ("intrinsic", 2), ("final_class", 2))
 Frame = namedtuple("Frame", [name for name, _ in FRAME])
-FRAME_LENGTH = 41
+FRAME_LENGTH = 43
 # "A refused case gives its number as two digits and a line end instead."
 REFUSAL_DIGITS = 2
 REFUSAL_LENGTH = 3
@@ -603,6 +621,7 @@ def write_frame(outcome, frame_buffer):
     """Outcome is a Frame or a refusal number. The buffer is as at exit."""
     frame_buffer = bytes(frame_buffer)
     # "15 a buffer shorter than 41 bytes, for refused cases too; nothing written."
+    # Document 02 item 1: "refusal 15 now speaks of 43 bytes."
     if len(frame_buffer) < FRAME_LENGTH:
         return Writing(15, frame_buffer)
     # "bytes after the last one written keep their content."
@@ -614,9 +633,9 @@ def frame_of(answer):
     """The printed fields of an assessment."""
     return Frame(low=answer.sheet.area.low, high=answer.sheet.area.high,
                  column=answer.sheet.column, flag=answer.sheet.flag,
-                 row_used=answer.row_used, place=answer.footprint.place,
-                 people=answer.footprint.people, intrinsic=answer.intrinsic,
-                 final_class=answer.final_class)
+                 size_column=answer.sheet.size_column, row_used=answer.row_used,
+                 place=answer.footprint.place, people=answer.footprint.people,
+                 intrinsic=answer.intrinsic, final_class=answer.final_class)
 
 
 def assessment_of(fields, lent):

@@ -31,7 +31,7 @@ def struct(name, *fields):
 Bracket = struct("Bracket", ("low", U64), ("high", U64))
 Sheet = struct(
     "Sheet", ("glide", Bracket), ("run", Bracket), ("saving", Bracket), ("slide", Bracket), ("total", Bracket), ("area", Bracket),
-    ("column", U8), ("flag", U8))
+    ("column", U8), ("flag", U8), ("size_column", U8))
 SheetAnswer = struct("SheetAnswer", ("refusal", U8), ("sheet", Sheet))
 Footprint = struct("Footprint", ("refusal", U8), ("row", U8), ("place", U32), ("people", U64), ("cells", U32))
 IntrinsicClass = struct("IntrinsicClass", ("refusal", U8), ("class", U8))
@@ -43,8 +43,8 @@ CaseHead = struct(
     "CaseHead", ("dimension", U32), ("mass", U32), ("speed", U32), ("cell_area", U32), ("controlled", U8), ("word", U16))
 Reading = struct("Reading", ("refusal", U8), ("head", CaseHead))
 FrameFields = struct(
-    "FrameFields", ("low", U64), ("high", U64), ("column", U8), ("flag", U8), ("row_used", U8), ("place", U32), ("people", U64),
-    ("intrinsic", U8), ("final_class", I8))
+    "FrameFields", ("low", U64), ("high", U64), ("column", U8), ("flag", U8), ("size_column", U8), ("row_used", U8), ("place", U32),
+    ("people", U64), ("intrinsic", U8), ("final_class", I8))
 
 
 # ---------------------------------------------------------------------------

@@ -47,6 +47,10 @@ def promised_outcomes():
         yield f"refusal {number}", 10
     for column in (1, 2, 3, 4, 5):
         yield f"printed, column {column}", 50
+    for column in (0, 1, 2, 3, 4, 5):
+        yield f"printed, size column {column}", 50
+    yield "printed, size column equal to the column", 50
+    yield "printed, size column higher than the column", 50
     for row in (1, 2, 3, 4, 5, 6, 7):
         yield f"printed, table row {row}", 10
     for column in (2, 3, 4, 5):
@@ -221,6 +225,11 @@ def mitigation_kinds(found):
 def sheet_kinds(found, answer):
     sheet = answer.sheet
     yield f"printed, column {sheet.column}"
+    yield f"printed, size column {sheet.size_column}"
+    if sheet.size_column == sheet.column:
+        yield "printed, size column equal to the column"
+    if sheet.size_column > sheet.column:
+        yield "printed, size column higher than the column"
     yield f"printed, table row {g.row_used(answer.footprint.row, found.fields.controlled)}"
     yield f"high area is {sheet.area.high:,}"
     if sheet.flag == 1:

@@ -11,11 +11,11 @@ import ground_risk as g
 HERE = Path(__file__).parent
 U32 = 2 ** 32 - 1
 
-# P16
+# P16, with document 02 item 1's "01 at P16" after the flag
 FIELDS = g.Fields(dimension=1_000, mass=10_000, speed=2_500, cell_area=10_000, controlled=0, word=0x1000)
 LENT = g.Lent(counts=[8] + [0] * (g.PLACES - 1), marks=[1 << 63] + [0] * (g.ROWS - 1))
 TEXT = g.text_of_fields(FIELDS, LENT)
-FRAME = b"000000c7ea0000c7eb0100050000000000080504\n"
+FRAME = b"000000c7ea0000c7eb010001050000000000080504\n"
 
 # What the lent buffers hold before.
 OLD = g.Lent(*([7_000_000 - n for n in range(length)] for length in g.LENT_LENGTHS))
@@ -56,7 +56,7 @@ class ReadingTest(unittest.TestCase):
         self.assertEqual([len(part.widths) * part.lines for part in g.BLOCKS if part.fills],
                          [getattr(g.LENT_LENGTHS, part.fills) for part in g.BLOCKS if part.fills])
         self.assertEqual({part.fills for part in g.BLOCKS} - {""}, set(g.Lent._fields))
-        self.assertEqual(g.REFUSAL_DIGITS + sum(width for _, width in g.FRAME) + 1, g.FRAME_LENGTH)
+        self.assertEqual((g.FRAME_LENGTH, g.REFUSAL_DIGITS + sum(width for _, width in g.FRAME) + 1), (43, 43))
         self.assertEqual(g.REFUSAL_DIGITS + 1, g.REFUSAL_LENGTH)
         self.assertEqual(g.zeros(), ([0] * 4_096, [0] * 64))
         self.assertEqual(DIGIT_PLACES, {0, 37, 39, 54, 1_110, 1_125, 1_127, 1_638, 33_446, 33_957})
@@ -107,25 +107,28 @@ class ReadingTest(unittest.TestCase):
 
 
 class WritingTest(unittest.TestCase):
-    frame = g.Frame(low=51_178, high=51_179, column=1, flag=0, row_used=5, place=0, people=8,
-                    intrinsic=5, final_class=4)
+    frame = g.Frame(low=51_178, high=51_179, column=1, flag=0, size_column=1, row_used=5, place=0,
+                    people=8, intrinsic=5, final_class=4)
 
     def test_frame(self):
         self.assertEqual(g.write_frame(self.frame, bytes(g.FRAME_LENGTH)), (0, FRAME))
         self.assertEqual(g.write_frame(self.frame, OLD_FRAME), (0, FRAME + OLD_FRAME[g.FRAME_LENGTH:]))
 
     def test_fields(self):
-        frame = g.Frame(low=0x12345678, high=0x9abcdef0, column=5, flag=1, row_used=7, place=0xfff,
-                        people=4_096_000_000, intrinsic=10, final_class=-1)
+        frame = g.Frame(low=0x12345678, high=0x9abcdef0, column=5, flag=1, size_column=4, row_used=7,
+                        place=0xfff, people=4_096_000_000, intrinsic=10, final_class=-1)
         self.assertEqual(g.frame_text(frame),
-                         b"00123456789abcdef00501070ffff42400000aff\n")
+                         b"00123456789abcdef0050104070ffff42400000aff\n")
         self.assertEqual(g.frame_text(frame._replace(final_class=0))[-3:], b"00\n")
+        for size_column in range(256):
+            self.assertEqual(g.frame_text(frame._replace(size_column=size_column)),
+                             b"00123456789abcdef00501%02x070ffff42400000aff\n" % size_column)
 
     def test_last_digits_of_numbers_too_long(self):
         # document 01 doesn't say it, and no accepted case has one
-        frame = g.Frame(low=0x123456789, high=0xfedcba9876543210, column=255, flag=255, row_used=255, place=0x12345,
-                        people=0x100000000, intrinsic=255, final_class=127)
-        self.assertEqual(g.frame_text(frame), b"002345678976543210ffffff234500000000ff7f\n")
+        frame = g.Frame(low=0x123456789, high=0xfedcba9876543210, column=255, flag=255, size_column=255, row_used=255,
+                        place=0x12345, people=0x100000000, intrinsic=255, final_class=127)
+        self.assertEqual(g.frame_text(frame), b"002345678976543210ffffffff234500000000ff7f\n")
 
     def test_refusals(self):
         for number in g.REFUSALS:
@@ -134,10 +137,12 @@ class WritingTest(unittest.TestCase):
         self.assertEqual(g.frame_text(10), b"0a\n")
 
     def test_short_buffer(self):
-        for length in range(g.FRAME_LENGTH):
+        for length in range(43):
             for outcome in (self.frame, 1, 14):
                 self.assertEqual(g.write_frame(outcome, OLD_FRAME[:length]),
                                  (15, OLD_FRAME[:length]))
+        for outcome, written in ((self.frame, FRAME), (1, b"01\n"), (14, b"0e\n")):
+            self.assertEqual(g.write_frame(outcome, OLD_FRAME[:43]), (0, written + OLD_FRAME[len(written):43]))
 
 
 class CaseTest(unittest.TestCase):
@@ -151,9 +156,10 @@ class CaseTest(unittest.TestCase):
 
     def test_short_frame_buffer(self):
         for text in (TEXT, b"", changed(5, 0)):
-            for length in (0, g.REFUSAL_LENGTH, g.FRAME_LENGTH - 1):
+            for length in (0, g.REFUSAL_LENGTH, 42):
                 for lent in (OLD, *WRONG_LENGTHS):
                     self.assertEqual(g.case(text, lent, OLD_FRAME[:length]), (15, lent, OLD_FRAME[:length]))
+        self.assertEqual(g.case(TEXT, OLD, OLD_FRAME[:43]), (0, LENT, FRAME))
 
     def test_reading_refusals(self):
         for number, text in ((13, b""), (13, TEXT + b"\n"), (14, changed(g.TEXT_LENGTH - 1, 13))):
@@ -194,7 +200,16 @@ class CaseTest(unittest.TestCase):
     def test_row_used(self):
         # On controlled ground the frame shows row 1.
         self.assertEqual(g.case(text_with(controlled=1, word=0x0003), OLD, bytes(g.FRAME_LENGTH)).frame,
-                         b"000000c7ea0000c7eb01000100000000000801ff\n")
+                         b"000000c7ea0000c7eb0100010100000000000801ff\n")
+
+    def test_size_column(self):
+        # Both columns stand in the frame, and the classes are of the first: P5 over P16's cell, where
+        # size column 3 would give class 7 in place of 6 (480,997 is 000756e5).
+        self.assertEqual(g.case(text_with(dimension=8_000, mass=50_000, speed=0), OLD, bytes(g.FRAME_LENGTH)).frame,
+                         b"00000756e5000756e7020003050000000000080605\n")
+        # one centimetre a second more than the last pair has
+        self.assertEqual(g.case(text_with(speed=20_001), OLD, bytes(g.FRAME_LENGTH)).frame,
+                         b"000000c7ea0000c7eb010000050000000000080504\n")
 
     def test_every_refusal_is_printed_or_15(self):
         self.assertEqual([g.printed_length(number) for number in (0, 15)], [g.FRAME_LENGTH, 0])

@@ -4,6 +4,7 @@ import contextlib
 import importlib.machinery
 import importlib.util
 import io
+import random
 import re
 import sys
 import tempfile
@@ -72,6 +73,7 @@ class SharesTest(unittest.TestCase):
             self.assertEqual(tuple(parameter.name for parameter in lent), g.Lent._fields)
         self.assertEqual(tuple(name for name, _ in library.CaseHead._fields_), g.Fields._fields)
         self.assertEqual(tuple(name for name, _ in library.FrameFields._fields_), g.Frame._fields)
+        self.assertEqual(["t" if name == "total" else name for name, _ in library.Sheet._fields_], list(g.Sheet._fields[1:]))
         self.assertEqual(set(compare.BUFFERS), set(g.Lent._fields))
 
     def test_those_on_a_map_or_a_text_are_a_third(self):
@@ -116,6 +118,23 @@ class CallsTest(unittest.TestCase):
         for name in library.OPERATIONS:
             self.assertGreater(answers[name, True], 0, name)
             self.assertGreater(answers[name, False], 0, name)
+
+    def test_every_size_column_and_every_edge_of_its_pairs_is_drawn_often(self):
+        columns, edges = Counter(), Counter()
+        for n in range(4_000):
+            w, m, v = compare.drawn(random.Random(n), ("dimension", "mass", "speed")).values()
+            sheet = g.sheet(w, m, v)
+            if sheet.refusal == 0:
+                columns[sheet.size_column] += 1
+                # the number that decides, where the other one is within the pair
+                edges.update((dimension, "dimension", w - dimension) for dimension, speed in g.SIZE_PAIRS if v <= speed)
+                edges.update((dimension, "speed", v - speed) for dimension, speed in g.SIZE_PAIRS if w <= dimension)
+        self.assertEqual(set(columns), {0, 1, 2, 3, 4, 5})
+        self.assertGreater(min(columns.values()), 100)
+        for dimension, _ in g.SIZE_PAIRS:
+            for name in ("dimension", "speed"):
+                for off in (-1, 0, 1):
+                    self.assertGreater(edges[dimension, name, off], 10, (dimension, name, off))
 
     def test_a_text_shows_the_call(self):
         values = {"dimension": 2_000, "mass": 3_000, "speed": 4_000}

@@ -1,5 +1,6 @@
 """The refusals' words, sheet, footprint, class table, mitigation word and the whole assessment."""
 
+import random
 import re
 import unittest
 from fractions import Fraction
@@ -45,7 +46,7 @@ class RefusalsTest(unittest.TestCase):
         numbers = {refusal: [int(part.replace(",", "")) for part in re.findall(r"\d[\d,]*", words)]
                    for refusal, words in g.REFUSALS.items()}
         self.assertEqual({refusal: found for refusal, found in numbers.items() if found}, {
-            4: [650_000_000], 5: [4_096, 64], 7: [1_000_000], 9: [1, 5, 2, 7, 0, 1], 12: [7], 13: [33_959], 15: [41]})
+            4: [650_000_000], 5: [4_096, 64], 7: [1_000_000], 9: [1, 5, 2, 7, 0, 1], 12: [7], 13: [33_959], 15: [43]})
 
 
 class SheetTest(unittest.TestCase):
@@ -70,18 +71,18 @@ class SheetTest(unittest.TestCase):
         # All six lines stand at 1,000 mm, though the area uses no slide.
         self.assertEqual(g.sheet(1_000, 10_000, 2_500), g.Sheet(
             0, (2_570_666, 2_570_667), (12_041_358, 12_041_359), (3_941_556, 3_941_557),
-            (8_099_801, 8_099_803), (19_082_347_200, 19_082_352_000), (51_178, 51_179), 1, 0))
+            (8_099_801, 8_099_803), (19_082_347_200, 19_082_352_000), (51_178, 51_179), 1, 0, 1))
 
     def test_lines_by_hand_middle(self):
         self.assertEqual(g.sheet(3_000, 25_000, 3_500), g.Sheet(
             0, (2_570_666, 2_570_667), (23_601_063, 23_601_064), (1_576_622, 1_576_623),
             (22_024_440, 22_024_442), (98_715_981_600, 98_715_992_400),
-            (592_295, 592_296), 2, 0))
+            (592_295, 592_296), 2, 0, 2))
 
     def test_lines_by_hand_large(self):
         self.assertEqual(g.sheet(8_001, 50_000, 0), g.Sheet(
             0, (2_570_666, 2_570_667), (0, 0), (788_311, 788_312), (0, 0),
-            (80_182_401_051, 80_182_409_652), (801_824, 801_825), 3, 0))
+            (80_182_401_051, 80_182_409_652), (801_824, 801_825), 3, 0, 4))
 
     def test_lines_at_the_ends(self):
         self.assertEqual(g.run_line(0), (0, 0))
@@ -201,6 +202,65 @@ class SheetTest(unittest.TestCase):
                     self.assertEqual(sheet, g.refused_sheet(4))
                     self.assertLessEqual(g.exact_area(w, m, v), limit)
                     self.assertGreater(g.exact_area(w, m, v), limit - 7)
+
+
+class SizeColumnTest(unittest.TestCase):
+    """Document 02 item 1."""
+
+    pairs = ((1_000, 2_500), (3_000, 3_500), (8_000, 7_500), (20_000, 12_000), (40_000, 20_000))
+
+    def sheet_has(self, refusal, column, aircraft):
+        sheet = g.sheet(*aircraft)
+        self.assertEqual((sheet.refusal, sheet.size_column), (refusal, column), aircraft)
+
+    def test_edges_of_the_pairs(self):
+        # at a pair and within it; the dimension, the speed or both one more; 0 comes after the last
+        for n, (w, v) in enumerate(self.pairs, 1):
+            after = (n + 1) % 6
+            for dimension, speed, column in (
+                    (w, v, n), (w - 1, v, n), (w, v - 1, n), (w - 1, v - 1, n),
+                    (w + 1, v, after), (w, v + 1, after), (w + 1, v + 1, after),
+                    (w + 1, v - 1, after), (w - 1, v + 1, after)):
+                # the lightest and the heaviest: the mass makes no difference
+                for mass in g.MASS_RANGE:
+                    self.sheet_has(0, column, (dimension, mass, speed))
+
+    def test_one_number_alone(self):
+        for w, v, column in (
+                # the smallest dimension, by its speed alone
+                (50, 2_500, 1), (50, 2_501, 2), (50, 3_501, 3), (50, 7_501, 4), (50, 12_001, 5), (50, 20_001, 0), (50, 40_000, 0),
+                # no speed, by the dimension alone
+                (1_000, 0, 1), (1_001, 0, 2), (3_001, 0, 3), (8_001, 0, 4), (20_001, 0, 5), (40_001, 0, 0), (100_000, 0, 0),
+                # the dimension of one pair with the speed of another: the later one
+                (1_000, 20_000, 5), (40_000, 2_500, 5), (3_000, 12_000, 4), (20_000, 3_500, 4), (8_000, 3_500, 3),
+                (3_000, 7_500, 3)):
+            self.sheet_has(0, column, (w, 50, v))
+
+    def test_refused_sheets_have_none(self):
+        # the first pair would be large enough; under 3 and 4 none ever is
+        for refusal, aircraft in ((1, (49, 50, 0)), (1, (0, 50, 2_500)), (2, (50, 49, 0)), (2, (1_000, 25_000_001, 2_500))):
+            self.assertEqual(g.size_column(aircraft[0], aircraft[2]), 1)
+            self.sheet_has(refusal, 0, aircraft)
+
+    def aircraft(self):
+        """Dimensions and speeds: all about the pairs and at the ends of the ranges, and any."""
+        dimensions = [50, 100_000, *(w + step for w, _ in self.pairs for step in (-1, 0, 1))]
+        speeds = [0, 40_000, *(v + step for _, v in self.pairs for step in (-1, 0, 1))]
+        source = random.Random(1)
+        return ([(w, v) for w in dimensions for v in speeds]
+                + [(source.randint(50, 45_000), source.randint(0, 22_000)) for _ in range(300)])
+
+    def test_at_most_n_exactly_when_pair_n_is_large_enough(self):
+        for w, v in self.aircraft():
+            for n, (dimension, speed) in enumerate(self.pairs, 1):
+                self.assertEqual(1 <= g.size_column(w, v) <= n, w <= dimension and v <= speed)
+
+    def test_grows_with_dimension_and_speed(self):
+        # none large enough counts as more than the last
+        columns = {aircraft: g.size_column(*aircraft) or 6 for aircraft in self.aircraft()}
+        self.assertEqual(set(columns.values()), {1, 2, 3, 4, 5, 6})
+        for (w, v), column in columns.items():
+            self.assertLessEqual(max(other for aircraft, other in columns.items() if aircraft[0] <= w and aircraft[1] <= v), column)
 
 
 class FootprintTest(unittest.TestCase):
@@ -353,6 +413,20 @@ class AssessmentTest(unittest.TestCase):
         answer = g.assessment(*self.small, some_counts(p0=8), one_cell(0), 10_000, 1, 0)
         self.assertEqual(answer, (0, g.sheet(*self.small), (0, 5, 0, 8, 1), 1, 1, 1))
 
+    def test_the_class_comes_from_the_area(self):
+        # P5: column 2 by its area, size column 3
+        aircraft = (8_000, 50_000, 0)
+        self.assertEqual((g.sheet(*aircraft).column, g.sheet(*aircraft).size_column), (2, 3))
+        houses = (some_counts(p0=8), one_cell(0), 10_000)
+        for controlled, word, classes in (
+                (0, 0x0000, (5, 6, 6)),     # row 5 of column 2 is 6, of column 3 it is 7
+                (1, 0x0000, (1, 1, 1)),     # row 1: 1, not 2
+                (0, 0x2310, (5, 6, 1))):    # five credits down to the floor 1, not 2
+            self.assertEqual(g.assessment(*aircraft, *houses, controlled, word)[3:], classes)
+        # no pair is large enough, and there is a class all the same: column 1 and 5 of row 5
+        self.assertEqual(g.assessment(1_000, 10_000, 20_001, *houses, 0, 0)[3:], (5, 5, 5))
+        self.assertEqual(g.assessment(100_000, 50, 0, *houses, 0, 0x2000)[3:], (5, 9, 7))
+
     def test_first_refusal(self):
         counts, marks = some_counts(p0=8), one_cell(0)
         crowd = some_counts(p0=1_000_000)
@@ -370,7 +444,7 @@ class AssessmentTest(unittest.TestCase):
             with self.subTest(refusal):
                 # "After a refusal every number is zero": sheet, footprint, row used, both classes
                 self.assertEqual(g.assessment(*wrong), (
-                    refusal, (0, *[(0, 0)] * 6, 0, 0), (0, 0, 0, 0, 0), 0, 0, 0))
+                    refusal, (0, *[(0, 0)] * 6, 0, 0, 0), (0, 0, 0, 0, 0), 0, 0, 0))
 
     def test_working(self):
         marks = one_cell(0)

@@ -147,7 +147,7 @@ class ExamplesTest(unittest.TestCase):
         for name, text in example_cases.EXAMPLES.items():
             self.assertEqual((HERE.parent / "examples" / f"{name}.case").read_bytes(), text())
         self.assertEqual(case_program.frame_of(example_cases.farmhouses()),
-                         b"000000c7ea0000c7eb0100050000000000080504\n")
+                         b"000000c7ea0000c7eb010001050000000000080504\n")
         self.assertEqual(case_program.frame_of(example_cases.refused()), b"0c\n")
         self.assertEqual(g.sheet(2_974, 20_005, 3_737).column, 3)
         self.assertEqual(g.sheet(2_974, 20_005, 3_737).flag, 1)

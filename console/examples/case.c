@@ -38,6 +38,8 @@ static const char *const GROUND[] = {
 static void say(struct frame f) {
     printf("critical area: %lu to %lu square centimetres\n", f.low, f.high);
     printf("column: %lu%s\n", f.column, f.flag ? ", the exact one may be the column before" : "");
+    if (f.size_column != 0) printf("size column: %lu\n", f.size_column);
+    else printf("size column: none is large enough\n");
     printf("table row: %lu, %s\n", f.row_used, f.row_used <= 7 ? GROUND[f.row_used] : "");
     printf("most people: in the cell at row %lu, column %lu\n", f.place / NB_MAP_COLUMNS, f.place % NB_MAP_COLUMNS);
     printf("people under the footprint: %lu\n", f.people);

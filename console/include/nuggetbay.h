@@ -30,7 +30,7 @@ extern "C" {
 /* The version of this header: the major number grows where an old signature or struct changes, the minor one where something
  * is new. A library serves a program that was built with this header where its major number is the same and nb_version() is at
  * least NB_VERSION. */
-#define NB_VERSION_MAJOR 2
+#define NB_VERSION_MAJOR 3
 #define NB_VERSION_MINOR 0
 #define NB_VERSION_PATCH 0
 #define NB_VERSION (NB_VERSION_MAJOR * 10000 + NB_VERSION_MINOR * 100 + NB_VERSION_PATCH)
@@ -45,14 +45,14 @@ uint32_t nb_version(void);
  * nb_case call, the return address is counted. This is so once names are bound: in a program that is linked with -Wl,-z,now or
  * statically, or runs with LD_BIND_NOW=1. Elsewhere the first call binds a name, which took some 3,100 bytes more where it was
  * tried. */
-#define NB_SHEET_STACK 56u
+#define NB_SHEET_STACK 64u
 #define NB_FOOTPRINT_STACK 448u
 #define NB_INTRINSIC_CLASS_STACK 136u
 #define NB_FINAL_CLASS_STACK 176u
-#define NB_ASSESS_STACK 864u
+#define NB_ASSESS_STACK 880u
 #define NB_READ_CASE_STACK 648u
-#define NB_WRITE_FRAME_STACK 96u
-#define NB_CASE_STACK 976u
+#define NB_WRITE_FRAME_STACK 56u
+#define NB_CASE_STACK 992u
 #define NB_REFUSAL_MESSAGE_STACK 8u
 #define NB_VERSION_STACK 8u
 
@@ -77,9 +77,9 @@ uint32_t nb_version(void);
 /* A printed frame: its fields with their digits, in order, and its bytes, the line end among them. A printed refusal is the
  * first field and a line end. */
 #define NB_FRAME(FIELD) \
-    FIELD(refusal, 2) FIELD(low, 8) FIELD(high, 8) FIELD(column, 2) FIELD(flag, 2) FIELD(row_used, 2) FIELD(place, 4) \
-    FIELD(people, 8) FIELD(intrinsic, 2) FIELD(final_class, 2)
-#define NB_FRAME_LENGTH 41u
+    FIELD(refusal, 2) FIELD(low, 8) FIELD(high, 8) FIELD(column, 2) FIELD(flag, 2) FIELD(size_column, 2) FIELD(row_used, 2) \
+    FIELD(place, 4) FIELD(people, 8) FIELD(intrinsic, 2) FIELD(final_class, 2)
+#define NB_FRAME_LENGTH 43u
 #define NB_REFUSAL_LENGTH 3u
 
 /* ---- Refusals ---- */
@@ -100,7 +100,7 @@ uint32_t nb_version(void);
     R(12, NB_FINAL_CLASS, "final class too high: at most 7 is allowed") \
     R(13, NB_TEXT_SIZE, "wrong text length: 33,959 bytes are needed") \
     R(14, NB_TEXT_BYTE, "wrong byte in the text: lower-case hexadecimal digits, and byte 10 at the end of each line, are allowed") \
-    R(15, NB_FRAME_SIZE, "frame buffer too short: at least 41 bytes are needed")
+    R(15, NB_FRAME_SIZE, "frame buffer too short: at least 43 bytes are needed")
 
 #define NB_REFUSAL_NUMBER(number, name, message) name = number,
 enum nb_refusal { NB_REFUSALS(NB_REFUSAL_NUMBER) NB_ACCEPTED = 0 };
@@ -117,7 +117,12 @@ typedef struct {
     uint64_t high;
 } nb_bracket_t;
 
-/* Lines 1 to 6 of the sheet, the column of the class table and the flag. */
+/* Lines 1 to 6 of the sheet, the column of the class table, the flag and the size column.
+ *
+ * The size column is the first of five whose dimension and speed are both at least the aircraft's: 1,000 mm and 2,500 cm/s;
+ * 3,000 and 3,500; 8,000 and 7,500; 20,000 and 12,000; 40,000 and 20,000. It is there to be shown, so that crews can see why
+ * the area route was taken: where it is higher than the column, or 0, dimension and speed alone would give a higher column, or
+ * none. The class comes from the area's column, never from the size column. */
 typedef struct {
     nb_bracket_t glide;  /* micrometres */
     nb_bracket_t run;    /* micrometres */
@@ -127,6 +132,7 @@ typedef struct {
     nb_bracket_t area;   /* the critical area, square centimetres */
     uint8_t column;      /* 1 to 5, from the high area */
     uint8_t flag;        /* 1 where the low area lies within the column before, so that the exact column may be that one; else 0 */
+    uint8_t size_column; /* 1 to 5; 0 where none of the five is large enough, and where refused */
 } nb_sheet_t;
 
 typedef struct {
@@ -162,8 +168,8 @@ typedef struct {
     uint8_t class_number; /* 1 to 10; 0 where refused */
 } nb_intrinsic_class_t;
 
-/* The intrinsic ground risk class: column (1 to 5) of the sheet, row (2 to 7) of the footprint, controlled mark: 1 puts row
- * 1 (controlled ground) in place of the row, 0 keeps it.
+/* The intrinsic ground risk class: column (1 to 5), which is the sheet's column and not its size column, row (2 to 7) of the
+ * footprint, controlled mark: 1 puts row 1 (controlled ground) in place of the row, 0 keeps it.
  * Refusals: 9, 10. */
 nb_intrinsic_class_t nb_intrinsic_class(uint8_t column, uint8_t row, uint8_t controlled);
 
@@ -172,8 +178,8 @@ typedef struct {
     int8_t class_number; /* -1 to 7; 0 where refused, so look at the refusal first */
 } nb_final_class_t;
 
-/* The final ground risk class after mitigation: column (1 to 5), intrinsic class (an entry of that column) and the
- * mitigation word, whose four hexadecimal digits are M1(A), M1(B), M1(C), M2, with 0 none, 1 low, 2 medium, 3 high: 0x2212
+/* The final ground risk class after mitigation: column (1 to 5, the sheet's column), intrinsic class (an entry of that column)
+ * and the mitigation word, whose four hexadecimal digits are M1(A), M1(B), M1(C), M2, with 0 none, 1 low, 2 medium, 3 high: 0x2212
  * is M1(A) medium, M1(B) medium, M1(C) low, M2 medium. Offered are M1(A) 0 to 2, M1(B) 0, 2, 3, M1(C) 0, 1, M2 0, 2, 3.
  * Refusals: 9, 11, 12. */
 nb_final_class_t nb_final_class(uint8_t column, uint8_t class_number, uint16_t word);
@@ -220,15 +226,16 @@ nb_reading_t nb_read_case(const uint8_t *text, size_t text_len, uint32_t *counts
 /* The fields of a printed frame after its refusal, in its order; NB_FRAME has their digits. Of a number that has more digits
  * than its field, the last digits are printed; no accepted case has one. */
 typedef struct {
-    uint64_t low;       /* the low critical area */
-    uint64_t high;      /* the high critical area */
+    uint64_t low;        /* the low critical area */
+    uint64_t high;       /* the high critical area */
     uint8_t column;
     uint8_t flag;
-    uint8_t row_used;   /* the class table's row that was used */
+    uint8_t size_column; /* the sheet's, shown only; 0 where none is large enough */
+    uint8_t row_used;    /* the class table's row that was used */
     uint32_t place;
     uint64_t people;
     uint8_t intrinsic;
-    int8_t final_class; /* a negative class is printed ff */
+    int8_t final_class;  /* a negative class is printed ff */
 } nb_frame_fields_t;
 
 /* Writes a frame into a buffer of at least NB_FRAME_LENGTH bytes: with refusal 0 the digits 00, the fields and a line end,

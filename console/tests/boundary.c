@@ -120,7 +120,7 @@ static void take(void *into, size_t length) {
 #define BRACKET(NUMBER, PART) NUMBER(low) NUMBER(high)
 #define SHEET(NUMBER, PART) \
     PART(bracket, glide) PART(bracket, run) PART(bracket, saving) PART(bracket, slide) PART(bracket, total) PART(bracket, area) \
-    NUMBER(column) NUMBER(flag)
+    NUMBER(column) NUMBER(flag) NUMBER(size_column)
 #define SHEET_ANSWER(NUMBER, PART) NUMBER(refusal) PART(sheet, sheet)
 #define FOOTPRINT(NUMBER, PART) NUMBER(refusal) NUMBER(row) NUMBER(place) NUMBER(people) NUMBER(cells)
 #define INTRINSIC_CLASS(NUMBER, PART) NUMBER(refusal) NUMBER(class_number)
@@ -131,8 +131,8 @@ static void take(void *into, size_t length) {
     NUMBER(dimension) NUMBER(mass) NUMBER(speed) NUMBER(cell_area) NUMBER(controlled) NUMBER(word)
 #define READING(NUMBER, PART) NUMBER(refusal) PART(case_head, head)
 #define FRAME_FIELDS(NUMBER, PART) \
-    NUMBER(low) NUMBER(high) NUMBER(column) NUMBER(flag) NUMBER(row_used) NUMBER(place) NUMBER(people) NUMBER(intrinsic) \
-    NUMBER(final_class)
+    NUMBER(low) NUMBER(high) NUMBER(column) NUMBER(flag) NUMBER(size_column) NUMBER(row_used) NUMBER(place) NUMBER(people) \
+    NUMBER(intrinsic) NUMBER(final_class)
 
 /* A number's bytes as a number, whatever its type. */
 static uint64_t bits(const void *number, size_t size) {

@@ -163,6 +163,13 @@ def map_lengths():
     return out
 
 
+def sizes():
+    """Sheets at every pair's dimension and speed by one, at the ends of the masses, and with one mass that is refused."""
+    dimensions, speeds = ([number + step for number in numbers for step in (-1, 0, 1)] for numbers in zip(*g.SIZE_PAIRS))
+    lightest, heaviest = g.MASS_RANGE
+    return b"".join(answered("sheet", *aircraft) for aircraft in product(dimensions, (lightest - 1, lightest, heaviest), speeds))
+
+
 def classes():
     out = b""
     words = [sum(digits // 5 ** place % 5 * 16 ** place for place in range(4)) for digits in range(5 ** 4)]
@@ -197,7 +204,7 @@ def frames():
     return out
 
 
-PARTS = (accepted_lengths, damaged_lengths, refused_lengths, map_lengths, classes, frames)
+PARTS = (accepted_lengths, damaged_lengths, refused_lengths, map_lengths, sizes, classes, frames)
 
 
 def run_part(number):

@@ -1,5 +1,5 @@
-"""The pages' numbers: README's are the checker's (the fields of a case, the mitigation digits, the class table, the refusals, the frame
-that it explains), TRUST's are the header's and the repository's."""
+"""The pages' numbers: README's are the checker's (the fields of a case, the mitigation digits, the class table, the size columns, the
+refusals, the frame that it explains), TRUST's are the header's and the repository's."""
 
 import re
 import sys
@@ -10,11 +10,13 @@ ROOT = Path(__file__).resolve().parents[2]
 sys.path.insert(0, str(ROOT / "checker"))
 
 import case                   # noqa: E402
+import declarations           # noqa: E402
 import example_cases          # noqa: E402
 import ground_risk as g       # noqa: E402
 import stack                  # noqa: E402
 
-README, TRUST = ((ROOT / page).read_text() for page in ("README.md", "docs/TRUST.md"))
+README, TRUST, HEADER, ANSWERS = ((ROOT / page).read_text() for page in (
+    "README.md", "docs/TRUST.md", "console/include/nuggetbay.h", "console/rust/src/answers.rs"))
 RANGES = {"dimension": g.DIMENSION_RANGE, "mass": g.MASS_RANGE, "speed": g.SPEED_RANGE, "cell_area": g.CELL_AREA_RANGE}
 CREDITS = {"M1(A)": g.M1A_CREDITS, "M1(B)": g.M1B_CREDITS, "M1(C)": g.M1C_CREDITS, "M2": g.M2_CREDITS}
 
@@ -23,6 +25,12 @@ def table(first):
     """The rows below the heading that starts with this cell, as lists of cells."""
     rows = README.split(f"\n| {first} ", 1)[1].split("\n\n", 1)[0].splitlines()[2:]
     return [[cell.strip() for cell in row.strip("|").split("|")] for row in rows]
+
+
+def size_column(dimension, speed):
+    """The checker's, of an aircraft so light that no area is refused."""
+    sheet = g.sheet(dimension, g.MASS_RANGE[0], speed)
+    return sheet.size_column if sheet.refusal == 0 else None
 
 
 class ReadmeTest(unittest.TestCase):
@@ -66,6 +74,19 @@ class ReadmeTest(unittest.TestCase):
         limits = ["{:,}".format(limit / 10_000).removesuffix(".0") for limit in g.AREA_LIMITS]
         self.assertIn(f"(up to {', '.join(limits[:-1])} and {limits[-1]} m²)", README)
 
+    def test_the_size_columns(self):
+        said = re.search(r"[\d,]+ mm and [\d,]+ cm/s(?:; [\d,]+ and [\d,]+)+", README)[0]
+        sizes = [tuple(int(number.replace(",", "")) for number in re.findall(r"[\d,]+", size)) for size in said.split(";")]
+        for column, (dimension, speed) in enumerate(sizes, 1):
+            self.assertEqual(size_column(dimension, speed), column)
+            for larger in ((dimension + 1, speed), (dimension, speed + 1)):
+                self.assertEqual(size_column(*larger), 0 if column == len(sizes) else column + 1)
+        for source in (HEADER, ANSWERS):
+            self.assertIn(said, re.sub(r"\s+(?:\*|///)\s+", " ", source))
+
+    def test_the_shared_library(self):
+        self.assertIn(f"`libnuggetbay.so.{declarations.version_of(HEADER).split('.')[0]}`", README)
+
     def test_nothing_is_left_to_fill_in(self):
         self.assertNotIn("TIME_", README)
 
@@ -88,7 +109,7 @@ class TrustTest(unittest.TestCase):
         self.assertIn(f"{of_code} are of the code, which still compiles, and {len(edits) - of_code} of a definition or a claim", TRUST)
 
     def test_the_stack(self):
-        said = stack.said_in((ROOT / "console/include/nuggetbay.h").read_text())
+        said = stack.said_in(HEADER)
         listed = re.search(r"at most (.*?) \|", TRUST)[1]
         found = {name: int(number) for number, names in re.findall(r"(\d+)(?: bytes for)? ((?:`nb_\w+`(?: and )?)+)", listed)
                  for name in re.findall(r"nb_\w+", names)}

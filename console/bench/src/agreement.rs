@@ -25,6 +25,12 @@ pub fn sheets(random: &mut Random, tally: &mut Tally) {
             0 => a.dimension = anything,
             1 => a.mass = anything,
             2 => a.speed = anything,
+            // at the edge of a size column
+            3 => {
+                let (largest, fastest) = random.one_of(&obvious::SIZES);
+                a.dimension = largest + random.below(2) as u32;
+                a.speed = fastest + random.below(2) as u32;
+            }
             _ => {}
         }
         let answer = library::sheet(a.dimension, a.mass, a.speed);

@@ -6,6 +6,8 @@ use nuggetbay::layout::{FRAME_LENGTH, MAP_CELLS, MAP_COLUMNS, MAP_ROWS, TEXT_LEN
 use std::io::Write;
 
 const LIMITS: [u64; 5] = [65_000, 650_000, 6_500_000, 65_000_000, 650_000_000];
+/// The dimension and the speed of each size column.
+pub const SIZES: [(u32, u32); 5] = [(1_000, 2_500), (3_000, 3_500), (8_000, 7_500), (20_000, 12_000), (40_000, 20_000)];
 
 /// A quotient rounded up, as `div_ceil` of Rust 1.73 gives it.
 macro_rules! rounded_up {
@@ -52,7 +54,18 @@ pub fn sheet(dimension: u32, mass: u32, speed: u32) -> Result<Sheet, u8> {
     };
     let column = LIMITS.iter().position(|&limit| limit >= area.high).ok_or(4)?;
     let flag = column > 0 && area.low <= LIMITS[column - 1];
-    Ok(Sheet { glide, run, saving, slide, total, area, column: column as u8 + 1, flag: u8::from(flag) })
+    let size_column = SIZES.iter().position(|&(largest, fastest)| largest >= dimension && fastest >= speed);
+    Ok(Sheet {
+        glide,
+        run,
+        saving,
+        slide,
+        total,
+        area,
+        column: column as u8 + 1,
+        flag: u8::from(flag),
+        size_column: size_column.map_or(0, |before| before as u8 + 1),
+    })
 }
 
 fn table_row(people: u32, cell_area: u32) -> u8 {
@@ -223,6 +236,7 @@ fn working(text: &[u8], counts: &mut [u32], marks: &mut [u64]) -> Result<FrameFi
         high: sheet.area.high,
         column: sheet.column,
         flag: sheet.flag,
+        size_column: sheet.size_column,
         row_used: if head.controlled == 1 { 1 } else { footprint.row },
         place: footprint.place,
         people: footprint.people,
@@ -240,8 +254,17 @@ pub fn case(text: &[u8], counts: &mut [u32], marks: &mut [u64], mut frame: &mut 
         Ok(f) => {
             writeln!(
                 frame,
-                "00{:08x}{:08x}{:02x}{:02x}{:02x}{:04x}{:08x}{:02x}{:02x}",
-                f.low, f.high, f.column, f.flag, f.row_used, f.place, f.people, f.intrinsic, f.final_class
+                "00{:08x}{:08x}{:02x}{:02x}{:02x}{:02x}{:04x}{:08x}{:02x}{:02x}",
+                f.low,
+                f.high,
+                f.column,
+                f.flag,
+                f.size_column,
+                f.row_used,
+                f.place,
+                f.people,
+                f.intrinsic,
+                f.final_class
             )
             .expect("the buffer was found long enough");
             0

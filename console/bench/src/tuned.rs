@@ -7,6 +7,8 @@ use nuggetbay::layout::{FRAME_LENGTH, MAP_CELLS, MAP_COLUMNS, MAP_ROWS, REFUSAL_
 use std::ops::Range;
 
 const LIMITS: [u64; 5] = [65_000, 650_000, 6_500_000, 65_000_000, 650_000_000];
+/// The dimension and the speed of each size column.
+const SIZES: [(u32, u32); 5] = [(1_000, 2_500), (3_000, 3_500), (8_000, 7_500), (20_000, 12_000), (40_000, 20_000)];
 
 fn refused_sheet(refusal: u8) -> SheetAnswer {
     SheetAnswer { refusal, ..Default::default() }
@@ -47,9 +49,17 @@ pub fn sheet(dimension: u32, mass: u32, speed: u32) -> SheetAnswer {
     }
     let before = LIMITS[..4].iter().map(|&limit| usize::from(area.high > limit)).sum::<usize>();
     let flag = (before > 0) & (area.low <= LIMITS[before.wrapping_sub(1) & 3]);
+    // from the last to the first, so that the first that is large enough stays: conditional moves, and no branch
+    let size_column = SIZES.iter().enumerate().rev().fold(0, |later, (earlier, &(largest, fastest))| {
+        if (dimension <= largest) & (speed <= fastest) {
+            earlier as u8 + 1
+        } else {
+            later
+        }
+    });
     let glide = Bracket { low: 2_570_666, high: 2_570_667 };
-    let sheet = Sheet { glide, run, saving, slide, total, area, column: before as u8 + 1, flag: u8::from(flag) };
-    SheetAnswer { refusal: 0, sheet }
+    let (column, flag) = (before as u8 + 1, u8::from(flag));
+    SheetAnswer { refusal: 0, sheet: Sheet { glide, run, saving, slide, total, area, column, flag, size_column } }
 }
 
 fn table_row(people: u32, cell_area: u32) -> u8 {
@@ -327,6 +337,7 @@ fn write_frame(frame: &mut [u8; FRAME_LENGTH], f: &FrameFields) {
     write_digits(part!(frame, "high"), f.high);
     write_digits(part!(frame, "column"), u64::from(f.column));
     write_digits(part!(frame, "flag"), u64::from(f.flag));
+    write_digits(part!(frame, "size_column"), u64::from(f.size_column));
     write_digits(part!(frame, "row_used"), u64::from(f.row_used));
     write_digits(part!(frame, "place"), u64::from(f.place));
     write_digits(part!(frame, "people"), f.people);
@@ -364,6 +375,7 @@ pub fn case(text: &[u8], counts: &mut [u32], marks: &mut [u64], frame: &mut [u8]
         high: sheet.area.high,
         column: sheet.column,
         flag: sheet.flag,
+        size_column: sheet.size_column,
         row_used: if head.controlled == 1 { 1 } else { footprint.row },
         place: footprint.place,
         people: footprint.people,

@@ -41,6 +41,10 @@ fn say_assessment(assessment: &Assessment, out: &mut impl Write) -> io::Result<(
     let flagged = if sheet.flag { ", the exact one may be the column before" } else { "" };
     writeln!(out, "critical area: {} to {} square centimetres", sheet.area.low, sheet.area.high)?;
     writeln!(out, "column: {}{flagged}", sheet.column)?;
+    match sheet.size_column {
+        Some(column) => writeln!(out, "size column: {column}")?,
+        None => writeln!(out, "size column: none is large enough")?,
+    }
     writeln!(out, "table row: {row_used}, {ground}")?;
     writeln!(out, "most people: in the cell at row {}, column {}", place / MAP_COLUMNS, place % MAP_COLUMNS)?;
     writeln!(out, "people under the footprint: {}", footprint.people)?;

@@ -1,4 +1,5 @@
-//! What is asked and what is answered, as a Rust program wants it: answers have no refusal, marks and flags are bool.
+//! What is asked and what is answered, as a Rust program wants it: answers have no refusal, marks and flags are bool, and a column
+//! that there may not be is an Option.
 
 use crate::{ffi, Refusal};
 
@@ -22,7 +23,7 @@ pub struct Bracket {
     pub high: u64,
 }
 
-/// Lines 1 to 6 of the sheet, the column of the class table and the flag.
+/// Lines 1 to 6 of the sheet, the column of the class table, the flag and the size column.
 #[derive(Clone, Copy, Debug, PartialEq, Eq, Hash)]
 pub struct Sheet {
     /// Line 1, the glide, in micrometres.
@@ -41,6 +42,12 @@ pub struct Sheet {
     pub column: u8,
     /// Whether the low area lies within the column before, so that the exact column may be that one.
     pub flag: bool,
+    /// The size column, 1 to 5: the first of five whose dimension and speed are both at least the aircraft's, `None` where none is
+    /// large enough. The five are 1,000 mm and 2,500 cm/s; 3,000 and 3,500; 8,000 and 7,500; 20,000 and 12,000; 40,000 and 20,000.
+    ///
+    /// It is there to be shown, so that crews can see why the area route was taken: where it is higher than the column, or `None`,
+    /// dimension and speed alone would give a higher column, or none. The class comes from [`column`](Sheet::column), never from it.
+    pub size_column: Option<u8>,
 }
 
 /// What lies under the marked cells of a map.
@@ -115,6 +122,8 @@ pub struct FrameFields {
     pub column: u8,
     /// The sheet's flag, printed 01 or 00.
     pub flag: bool,
+    /// The sheet's size column; `None` is printed 00, and so is `Some(0)`, which no sheet has.
+    pub size_column: Option<u8>,
     /// The row of the class table that was used.
     pub row_used: u8,
     /// The first marked cell with the largest count.
@@ -173,6 +182,7 @@ impl From<ffi::Sheet> for Sheet {
             area: sheet.area.into(),
             column: sheet.column,
             flag: sheet.flag != 0,
+            size_column: Some(sheet.size_column).filter(|&column| column != 0),
         }
     }
 }
@@ -213,6 +223,7 @@ impl From<&Assessment> for FrameFields {
             high: sheet.area.high,
             column: sheet.column,
             flag: sheet.flag,
+            size_column: sheet.size_column,
             row_used,
             place: footprint.place,
             people: footprint.people,
@@ -224,7 +235,9 @@ impl From<&Assessment> for FrameFields {
 
 impl From<FrameFields> for ffi::FrameFields {
     fn from(fields: FrameFields) -> ffi::FrameFields {
-        let FrameFields { low, high, column, flag, row_used, place, people, intrinsic, final_class } = fields;
-        ffi::FrameFields { low, high, column, flag: u8::from(flag), row_used, place, people, intrinsic, final_class }
+        let FrameFields { low, high, column, flag, size_column, row_used, place, people, intrinsic, final_class } =
+            fields;
+        let (flag, size_column) = (u8::from(flag), size_column.unwrap_or(0));
+        ffi::FrameFields { low, high, column, flag, size_column, row_used, place, people, intrinsic, final_class }
     }
 }

@@ -19,6 +19,7 @@ pub struct Sheet {
     pub area: Bracket,
     pub column: u8,
     pub flag: u8,
+    pub size_column: u8,
 }
 
 #[repr(C)]
@@ -88,6 +89,7 @@ pub struct FrameFields {
     pub high: u64,
     pub column: u8,
     pub flag: u8,
+    pub size_column: u8,
     pub row_used: u8,
     pub place: u32,
     pub people: u64,

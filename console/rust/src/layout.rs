@@ -51,12 +51,13 @@ pub const COUNTS: usize = MARKS + MAP_ROWS * MARK_LINE;
 pub const TEXT_LENGTH: usize = COUNTS + MAP_ROWS * COUNT_LINE;
 
 /// The fields of a printed frame, in order. A printed refusal has the first one only.
-pub const FRAME: [Field; 10] = [
+pub const FRAME: [Field; 11] = [
     ("refusal", 2),
     ("low", 8),
     ("high", 8),
     ("column", 2),
     ("flag", 2),
+    ("size_column", 2),
     ("row_used", 2),
     ("place", 4),
     ("people", 8),
@@ -90,7 +91,7 @@ pub const fn line_1_place(name: &str) -> Option<Range<usize>> {
 /// ```
 /// use nuggetbay::layout::frame_place;
 ///
-/// let frame = b"000000c7ea0000c7eb0100050000000000080504\n";
+/// let frame = b"000000c7ea0000c7eb010001050000000000080504\n";
 /// assert_eq!(&frame[frame_place("people").unwrap()], b"00000008");
 /// assert_eq!(frame_place("mass"), None);
 /// ```

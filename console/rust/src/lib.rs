@@ -63,7 +63,7 @@ fn accepted(number: u8) -> Result<(), Refusal> {
 /// let aircraft = Aircraft { dimension: 1_000, mass: 10_000, speed: 2_500 };
 /// let answer = sheet(aircraft)?;
 /// assert_eq!(answer.area, Bracket { low: 51_178, high: 51_179 });
-/// assert_eq!((answer.column, answer.flag), (1, false));
+/// assert_eq!((answer.column, answer.flag, answer.size_column), (1, false, Some(1)));
 ///
 /// assert_eq!(sheet(Aircraft { mass: 49, ..aircraft }), Err(Refusal::Mass));
 /// # Ok::<(), Refusal>(())
@@ -104,8 +104,8 @@ pub fn footprint(counts: &[u32], marks: &[u64], cell_area: u32) -> Result<Footpr
     Ok(answer.into())
 }
 
-/// The intrinsic ground risk class, 1 to 10: column (1 to 5) of the sheet and row (2 to 7) of the footprint. Controlled ground
-/// puts row 1 in place of the row.
+/// The intrinsic ground risk class, 1 to 10: column (1 to 5), which is the sheet's [`column`](Sheet::column) and not its size
+/// column, and row (2 to 7) of the footprint. Controlled ground puts row 1 in place of the row.
 ///
 /// # Errors
 ///
@@ -127,8 +127,8 @@ pub fn intrinsic_class(column: u8, row: u8, controlled: bool) -> Result<u8, Refu
     Ok(answer.class)
 }
 
-/// The final ground risk class after mitigation, -1 to 7: column (1 to 5), intrinsic class (an entry of that column) and the
-/// mitigation word.
+/// The final ground risk class after mitigation, -1 to 7: column (1 to 5, the sheet's [`column`](Sheet::column)), intrinsic class
+/// (an entry of that column) and the mitigation word.
 ///
 /// The four hexadecimal digits of the word are M1(A), M1(B), M1(C), M2, with 0 none, 1 low, 2 medium, 3 high: 0x2212 is M1(A)
 /// medium, M1(B) medium, M1(C) low, M2 medium. Offered are M1(A) 0 to 2, M1(B) 0, 2, 3, M1(C) 0, 1, M2 0, 2, 3.
@@ -282,6 +282,7 @@ pub fn read_case(text: &[u8], counts: &mut [u32], marks: &mut [u64]) -> Result<C
 ///     high: 51_179,
 ///     column: 1,
 ///     flag: false,
+///     size_column: Some(1),
 ///     row_used: 5,
 ///     place: 0,
 ///     people: 8,
@@ -289,7 +290,7 @@ pub fn read_case(text: &[u8], counts: &mut [u32], marks: &mut [u64]) -> Result<C
 ///     final_class: 4,
 /// };
 /// let length = write_frame(Ok(fields), &mut frame)?;
-/// assert_eq!(&frame[..length], b"000000c7ea0000c7eb0100050000000000080504\n");
+/// assert_eq!(&frame[..length], b"000000c7ea0000c7eb010001050000000000080504\n");
 ///
 /// let length = write_frame(Err(Refusal::FinalClass), &mut frame)?;
 /// assert_eq!(&frame[..length], b"0c\n");
@@ -329,7 +330,7 @@ pub fn write_frame(case: Result<FrameFields, Refusal>, frame: &mut [u8]) -> Resu
 ///
 /// let (mut counts, mut marks, mut frame) = ([0; MAP_CELLS], [0; MAP_ROWS], [0; FRAME_LENGTH]);
 /// case(text.as_bytes(), &mut counts, &mut marks, &mut frame)?;
-/// assert_eq!(&frame, b"000000c7ea0000c7eb0100050000000000080504\n");
+/// assert_eq!(&frame, b"000000c7ea0000c7eb010001050000000000080504\n");
 ///
 /// text.pop();
 /// let refused = case(text.as_bytes(), &mut counts, &mut marks, &mut frame);

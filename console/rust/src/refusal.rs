@@ -76,7 +76,7 @@ refusals! {
     12 FinalClass "final class too high: at most 7 is allowed"
     13 TextLength "wrong text length: 33,959 bytes are needed"
     14 TextByte "wrong byte in the text: lower-case hexadecimal digits, and byte 10 at the end of each line, are allowed"
-    15 FrameLength "frame buffer too short: at least 41 bytes are needed"
+    15 FrameLength "frame buffer too short: at least 43 bytes are needed"
 }
 
 impl Refusal {

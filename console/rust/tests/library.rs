@@ -31,6 +31,37 @@ fn the_flag_is_that_of_the_stored_example() {
     assert_eq!(sheet(P2).map(|sheet| sheet.flag), Ok(false));
 }
 
+#[test]
+fn the_size_column_is_the_first_that_is_large_enough() {
+    let sizes = [(1_000, 2_500), (3_000, 3_500), (8_000, 7_500), (20_000, 12_000), (40_000, 20_000)];
+    // so light that no area is refused
+    let size_column = |dimension, speed| sheet(Aircraft { dimension, mass: 50, speed }).map(|sheet| sheet.size_column);
+    for (column, (dimension, speed)) in (1..).zip(sizes) {
+        let next = Some(column + 1).filter(|&next| next <= 5);
+        assert_eq!(size_column(dimension, speed), Ok(Some(column)));
+        assert_eq!(size_column(dimension + 1, speed), Ok(next));
+        assert_eq!(size_column(dimension, speed + 1), Ok(next));
+    }
+    assert_eq!(size_column(50, 0), Ok(Some(1)));
+    assert_eq!(size_column(100_000, 0), Ok(None));
+    assert_eq!(size_column(50, 40_000), Ok(None));
+}
+
+#[test]
+fn the_class_comes_from_the_area_and_not_from_the_size() {
+    let (counts, marks) = one_cell(8, 0);
+    let assessed = |aircraft| {
+        let question =
+            Question { aircraft, counts: &counts, marks: &marks, cell_area: 10_000, controlled: false, word: 0 };
+        assess(question).map(|a| (a.sheet.size_column, a.sheet.column, a.intrinsic))
+    };
+    assert_eq!(assessed(P2), Ok((Some(1), 1, 5)));
+    // P5
+    assert_eq!(assessed(Aircraft { dimension: 8_000, mass: 50_000, speed: 0 }), Ok((Some(3), 2, 6)));
+    // up to 1,000 mm no slide counts, whatever the speed
+    assert_eq!(assessed(Aircraft { speed: 40_000, ..P2 }), Ok((None, 1, 5)));
+}
+
 /// A map with people in one marked cell.
 fn one_cell(people: u32, place: usize) -> (Vec<u32>, Vec<u64>) {
     let (mut counts, mut marks) = (vec![0; MAP_CELLS], vec![0; MAP_ROWS]);
@@ -133,8 +164,8 @@ fn text() -> Vec<u8> {
 }
 
 #[test]
-fn the_text_and_the_frame_are_as_long_as_document_01_says() {
-    assert_eq!((MAP_CELLS, TEXT_LENGTH, FRAME_LENGTH, REFUSAL_LENGTH), (4_096, 33_959, 41, 3));
+fn the_text_and_the_frame_are_as_long_as_the_papers_say() {
+    assert_eq!((MAP_CELLS, TEXT_LENGTH, FRAME_LENGTH, REFUSAL_LENGTH), (4_096, 33_959, 43, 3));
     assert_eq!((LINE_1_LENGTH, MARK_LINE, COUNT_LINE), (39, 17, 513));
 }
 
@@ -169,7 +200,7 @@ fn p16_the_whole_case() {
     let mut l = lent();
     assert_eq!(text().len(), TEXT_LENGTH);
     assert_eq!(case(&text(), &mut l.counts, &mut l.marks, &mut l.frame), Ok(()));
-    assert_eq!(l.frame, b"000000c7ea0000c7eb0100050000000000080504\nxxxxxxxxx");
+    assert_eq!(l.frame, b"000000c7ea0000c7eb010001050000000000080504\nxxxxxxxxx");
     let (counts, marks) = one_cell(8, 0);
     assert_eq!((l.counts, l.marks), (counts, marks));
 }
@@ -214,6 +245,7 @@ fn line_1_is_read_and_frames_are_written() {
         high: 2,
         column: 3,
         flag: true,
+        size_column: Some(5),
         row_used: 4,
         place: 4_095,
         people: 5,
@@ -221,7 +253,9 @@ fn line_1_is_read_and_frames_are_written() {
         final_class: -1,
     };
     assert_eq!(write_frame(Ok(fields), &mut l.frame), Ok(FRAME_LENGTH));
-    assert_eq!(&l.frame[..FRAME_LENGTH + 1], b"0000000001000000020301040fff0000000506ff\nx");
+    assert_eq!(&l.frame[..FRAME_LENGTH + 1], b"000000000100000002030105040fff0000000506ff\nx");
+    assert_eq!(write_frame(Ok(FrameFields { size_column: None, ..fields }), &mut l.frame), Ok(FRAME_LENGTH));
+    assert_eq!(&l.frame[..FRAME_LENGTH + 1], b"000000000100000002030100040fff0000000506ff\nx");
     assert_eq!(write_frame(Err(Refusal::NoClass), &mut l.frame), Ok(REFUSAL_LENGTH));
     assert_eq!(&l.frame[..4], b"0a\n0");
 }
@@ -244,7 +278,7 @@ fn case_file(name: &str) -> CaseFile {
 
 #[test]
 fn a_written_assessment_is_the_printed_case() {
-    for name in ["farmhouses", "flagged", "refused"] {
+    for name in ["farmhouses", "area_route", "flagged", "refused"] {
         let CaseFile { text, head, counts, marks } = case_file(name);
         let answer = head.assess(&counts, &marks);
         let (mut written, mut printed) = (lent(), lent());

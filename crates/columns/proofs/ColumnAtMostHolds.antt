@@ -1,38 +1,23 @@
 -- The column goes with the high area.
-use mathlib.Core.Path.{sym, _∙_}
-use mathlib.Core.Bool.{true≢false}
-use mathlib.Core.Logic.{⊎-elim}
-use Prim.Native.Nat.{ℕ, _+_, _≤_, _<_}
+use Prim.Native.Nat.{ℕ}
 use native.Mathlib.Nat.{le-trans}
 use native.Mathlib.Omega.{arith}
 use lib.Dec.{leb, lit<}
 use borrow.Author.Tests.{leb-true, le-leb}
-use Rattle.arithmetic.proofs.TestLaws.{lt-or-le}
-use Rattle.columns.specs.Column.{columnCount, limits, limitAt, lastLimit, columnOf}
+use Rattle.columns.specs.Column.{limits, limitAt, lastLimit, columnBy, columnOf}
 use Rattle.columns.specs.ColumnAtMost.{ColumnAtMost}
-use Rattle.columns.proofs.FirstInTable.{FirstAt}
+use Rattle.columns.proofs.FirstInTable.{PassesOn, first-at-most}
 use Rattle.columns.proofs.LimitLaws.{limit-mono}
-use Rattle.columns.proofs.ColumnLaws.{column-at, limit-found}
+use Rattle.columns.proofs.ColumnLaws.{column-in-table}
 
-column-to : (high n : ℕ) → n < columnCount → high ≤ lastLimit → columnOf high ≤ n + 1 → high ≤ limitAt n
-unfolding columnOf
-column-to high n l h c =
-    let r : (k : ℕ) × FirstAt (leb high) limits k = limit-found high h
-    in le-trans (leb-true high (limitAt (r .0)) (r .1 .here))
-    (limit-mono (r .0) n (omega (arith, column-at (leb high) (r .0) (r .1))) l)
-
-column-from : (high n : ℕ) → n < columnCount → high ≤ limitAt n → (high ≤ lastLimit) × (columnOf high ≤ n + 1)
-unfolding columnOf
-column-from high n l h =
-    let top : high ≤ lastLimit = le-trans h (limit-mono n 4 (omega arith) (lit< tt))
-    in let r : (k : ℕ) × FirstAt (leb high) limits k = limit-found high top
-    in (top, omega (arith, column-at (leb high) (r .0) (r .1), not-after (r .0) (r .1)))
-  where
-    -- the first that passes is not after n, which passes
-    not-after : (k : ℕ) → FirstAt (leb high) limits k → k ≤ n
-    not-after k f =
-        ⊎-elim (λ (q : n < k). absurd (true≢false (sym (le-leb high (limitAt n) h) ∙ f .before n q)))
-        (λ (q : k ≤ n). q) (lt-or-le n k)
+-- an area that is at most a limit is at most each one after it
+under-on : (high : ℕ) → PassesOn 0 (leb high) limits
+under-on high i k h l t = le-leb high (limitAt k) (le-trans (leb-true high (limitAt i) t) (limit-mono i k h l))
 
 pub column-at-most : ColumnAtMost
-column-at-most high n l = (λ h. column-to high n l (h .0) (h .1), λ h. column-from high n l h)
+unfolding columnOf columnBy
+column-at-most high n l =
+    let by-first = first-at-most 0 (leb high) limits (under-on high) n l in (
+      λ h. leb-true high (limitAt n) (by-first .0 (column-in-table (leb high) (le-leb high lastLimit (h .0)) .0, h .1)),
+      λ h. (le-trans h (limit-mono n 4 (omega arith) (lit< tt)), by-first .1 (le-leb high (limitAt n) h) .1),
+    )

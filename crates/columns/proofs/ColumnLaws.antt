@@ -7,29 +7,32 @@ use lib.Dec.{leb, ltb, lit<, lit≤}
 use borrow.Author.Tests.{le-leb, lt-leb}
 use Rattle.arithmetic.proofs.TestLaws.{cond-le}
 use Rattle.columns.specs.Column.{columnCount, limits, limitAt, lastLimit, columnBy, columnOf, flagOf}
-use Rattle.columns.proofs.FirstInTable.{FirstAt, first-is, first-exists, first-none, first-max}
+use Rattle.columns.proofs.FirstInTable.{FirstAt, first-max, first-is, first-none, first-exists}
 use Rattle.columns.proofs.LimitLaws.{limit-mono}
 
--- a column's limit is the first that passes
-pub column-at : (under : ℕ → Bool) (k : ℕ) → FirstAt under limits k → columnBy under ≡ suc k
+-- the first limit that passes is that of column k + 1
+abbrev pub FirstLimit : (ℕ → Bool) → ℕ → Type 0
+FirstLimit under k = FirstAt 0 under limits k
+
+pub column-at : (under : ℕ → Bool) (k : ℕ) → FirstLimit under k → columnBy under ≡ suc k
 unfolding columnBy
-column-at under k f = first-is under limits 1 k f ∙ omega arith
+column-at under k f = first-is 0 under limits 1 k f ∙ omega arith
 
 -- up to the last limit there is a first limit that is at least the high area
-pub limit-found : (high : ℕ) → high ≤ lastLimit → (k : ℕ) × FirstAt (leb high) limits k
-limit-found high h = first-exists (leb high) limits 4 (lit< tt) (le-leb high lastLimit h)
+pub limit-found : (high : ℕ) → high ≤ lastLimit → (k : ℕ) × FirstLimit (leb high) k
+limit-found high h = first-exists 0 (leb high) limits 4 (lit< tt) (le-leb high lastLimit h)
 
 -- and the column is one of the table's
 pub column-in-table : (under : ℕ → Bool) → under lastLimit ≡ true → (1 ≤ columnBy under) × (columnBy under ≤ columnCount)
 column-in-table under t =
-    let r : (k : ℕ) × FirstAt under limits k = first-exists under limits 4 (lit< tt) t
+    let r : (k : ℕ) × FirstLimit under k = first-exists 0 under limits 4 (lit< tt) t
     in omega (arith, column-at under (r .0) (r .1), r .1 .inside)
 
 -- above it there is none
 pub no-column : (high : ℕ) → lastLimit < high → columnOf high ≡ 0
 unfolding columnOf columnBy
 no-column high h =
-    first-none (leb high) limits 1 (λ i l. lt-leb high (limitAt i) (omega (arith, limit-mono i 4 (omega arith) (lit< tt))))
+    first-none 0 (leb high) limits 1 (λ i l. lt-leb high (limitAt i) (omega (arith, limit-mono i 4 (omega arith) (lit< tt))))
 
 pub column-max : (high : ℕ) → columnOf high ≤ columnCount
 unfolding columnOf columnBy

@@ -10,10 +10,9 @@ use borrow.Author.Tests.{leb-true, leb-false, le-leb, lt-leb, le-ltb, lt-ltb}
 use lib.Dec.{leb, ltb}
 use mir.Val.{boolByte}
 use Rattle.arithmetic.proofs.TestLaws.{lt-or-le}
-use Rattle.columns.specs.Column.{columnCount, limits, limitAt, lastLimit, columnOf, flagOf}
-use Rattle.columns.proofs.FirstInTable.{FirstAt}
+use Rattle.columns.specs.Column.{columnCount, limitAt, lastLimit, columnOf, flagOf}
 use Rattle.columns.proofs.LimitLaws.{limit-mono}
-use Rattle.columns.proofs.ColumnLaws.{column-at, limit-found}
+use Rattle.columns.proofs.ColumnLaws.{FirstLimit, column-at, limit-found}
 
 -- the column by the first n limits
 unfoldable pub columnAfter : ℕ → ℕ → ℕ
@@ -41,7 +40,7 @@ flaggedTo zero = 0
 flaggedTo (suc k) = limitAt k + 1
 
 -- the first limit that is at least the high area is that of column k + 1
-module _ (high k : ℕ) (first : FirstAt (leb high) limits k) where
+module _ (high k : ℕ) (first : FirstLimit (leb high) k) where
   -- each limit before it is passed
   up-to : (n : ℕ) → n ≤ k → (columnAfter high n ≡ suc n) × (flaggedBelow high n ≡ flaggedTo n)
   unfolding columnAfter flaggedBelow flaggedTo

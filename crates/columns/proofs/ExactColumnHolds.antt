@@ -8,11 +8,10 @@ use native.Mathlib.Numerals.{add-one}
 use native.Mathlib.Omega.{arith}
 use lib.Dec.{leb}
 use borrow.Author.Tests.{leb-true, leb-false, lt-ltb}
-use Rattle.columns.specs.Column.{limits, limitAt, lastLimit, columnBy, columnOf, flagOf}
+use Rattle.columns.specs.Column.{limitAt, lastLimit, columnBy, columnOf, flagOf}
 use Rattle.columns.specs.ExactColumn.{LiesIn, MeetsAtMostOneLimit, ExactColumnLaw}
 use Rattle.columns.specs.declared.Bracket.{Bracket}
-use Rattle.columns.proofs.FirstInTable.{FirstAt}
-use Rattle.columns.proofs.ColumnLaws.{column-at, limit-found, column-in-table, flag-at-most-one}
+use Rattle.columns.proofs.ColumnLaws.{FirstLimit, column-at, limit-found, column-in-table, flag-at-most-one}
 
 -- no flag past the first column: the low area is above the limit before it
 flag-clear : (low i : ℕ) → flagOf low (suc (suc i)) ≡ 0 → limitAt i < low
@@ -35,7 +34,7 @@ module _ (area : Bracket) (under : ℕ → Bool) (in-bracket : LiesIn area under
       by-test false e = e
 
   -- the first limit that is at least the high area is that of column k + 1
-  module _ (at-most-one : MeetsAtMostOneLimit area) (k : ℕ) (first : FirstAt (leb (area .high)) limits k) where
+  module _ (at-most-one : MeetsAtMostOneLimit area) (k : ℕ) (first : FirstLimit (leb (area .high)) k) where
     -- two limits back, the exact area is above
     two-back : (i : ℕ) → suc i < k → under (limitAt i) ≡ false
     two-back i h =

@@ -1,6 +1,9 @@
 pub mod FirstInTable
+pub mod GrowingTable
 pub mod LimitLaws
 pub mod ColumnLaws
 pub mod CountedColumn
 pub mod ColumnAtMostHolds
 pub mod ExactColumnHolds
+pub mod SizeColumnFromLast
+pub mod SizeColumnPromiseHolds

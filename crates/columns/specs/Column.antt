@@ -22,7 +22,7 @@ abbrev pub limitAt : ℕ → ℕ
 limitAt i = getD limits i 0
 
 -- the first entry of a table that passes a test, counted from k; 0 where none does
-abbrev pub firstFrom : (ℕ → Bool) → ℕ → List ℕ → ℕ
+abbrev pub firstFrom : {A : Type 0} → (A → Bool) → ℕ → List A → ℕ
 firstFrom p k [] = 0
 firstFrom p k (x ∷ xs) = cond (p x) k (firstFrom p (suc k) xs)
 

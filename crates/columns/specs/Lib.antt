@@ -2,3 +2,5 @@ pub mod Bracket
 pub mod Column
 pub mod ColumnAtMost
 pub mod ExactColumn
+pub mod SizeColumn
+pub mod SizeColumnPromise

@@ -6,7 +6,7 @@ use borrow.Author.Tests.{leb-true, le-leb}
 use Rattle.arithmetic.specs.Fraction.{Fraction, _over_, _⊑_}
 use Rattle.columns.specs.ExactColumn.{LiesIn, MeetsAtMostOneLimit}
 use Rattle.columns.specs.declared.Bracket.{Bracket}
-use Rattle.columns.proofs.LimitLaws.{limit-tenfold, limit-least}
+use Rattle.columns.proofs.LimitLaws.{limit-tenfold, limit-mono}
 use Rattle.exact_area.specs.ExactArea.{under}
 
 pub lies-in : (x : Fraction) (area : Bracket) → 0 < x .den → area .low over 1 ⊑ x → x ⊑ area .high over 1 → LiesIn area (under x)
@@ -17,4 +17,4 @@ lies-in x area pos low high =
     }
 
 pub meets-at-most-one : (area : Bracket) → area .high ≤ area .low + 7 → MeetsAtMostOneLimit area
-meets-at-most-one area width i h l = omega (arith, limit-tenfold i h, limit-least i (omega arith))
+meets-at-most-one area width i h l = omega (arith, limit-tenfold i h, limit-mono 0 i (omega arith) (omega arith))

@@ -7,7 +7,7 @@ use Rattle.arithmetic.specs.Rounding.{divUp}
 use Rattle.arithmetic.proofs.EachLaws.{each-equal}
 use Rattle.columns.specs.Column.{columnBy, columnOf, flagOf}
 use Rattle.sheet.specs.Lines.{runOf, savingOf, totalOf, formulaOf, areaOf}
-use Rattle.sheet.specs.Sheet.{withLines, linesOf, sheetOf}
+use Rattle.sheet.specs.Sheet.{withLines, linesWithSizeColumn, sheetWithSizeColumn}
 use Rattle.exact_area.specs.ExactArea.{exactGlide, speedTerm, massTerm, friction, exactSlide, halfWidth, wholeArea, exactBy, exactArea, exactColumn}
 use Rattle.exact_area.specs.Points.{AreaPointHolds, ColumnPointHolds, onSheet, FlagPointHolds}
 use Rattle.exact_area.specs.PointTable.{exactPoints}
@@ -23,5 +23,5 @@ unfolding exactColumn columnBy exactArea exactBy wholeArea halfWidth exactSlide 
 column-points-hold = each-equal (λ p. exactColumn (p .w) (p .m) (p .v)) (λ p. p .exact-column) exactPoints refl
 
 pub flag-points-hold : Each FlagPointHolds exactPoints
-unfolding sheetOf linesOf withLines flagOf columnOf columnBy areaOf formulaOf totalOf savingOf runOf divUp
+unfolding sheetWithSizeColumn linesWithSizeColumn withLines flagOf columnOf columnBy areaOf formulaOf totalOf savingOf runOf divUp
 flag-points-hold = each-equal (λ p. onSheet (p .w) (p .m) (p .v)) (λ p. p .on-sheet) exactPoints refl

@@ -67,12 +67,12 @@ fields-shown f b h fits =
     let stand = part-left t 0 frameDigits 1 (written (frameFields f)) lineEnd line (length-written (frameFields f)) in
     let r =
     fields-read (frameFields f) t 0
-    (omega arith, (fits .low, (fits .high, (fits .column, (fits .flag, (fits .row-used, (fits .place, (fits .people, (fits .intrinsic, (class-below (f .«final_class») (fits .final-class), tt))))))))))
+    (omega arith, (fits .low, (fits .high, (fits .column, (fits .flag, (fits .size-column, (fits .row-used, (fits .place, (fits .people, (fits .intrinsic, (class-below (f .«final_class») (fits .final-class), tt)))))))))))
     stand in
     let s = r .1 .1 .1 .1 .1 in
     record {
       accepted = r .0;
-      fields = rw (r .1 .0, r .1 .1 .0, r .1 .1 .1 .0, r .1 .1 .1 .1 .0, s .0, s .1 .0, s .1 .1 .0, s .1 .1 .1 .0, s .1 .1 .1 .1 .0, class-back (f .«final_class») (fits .final-class));
+      fields = rw (r .1 .0, r .1 .1 .0, r .1 .1 .1 .0, r .1 .1 .1 .1 .0, s .0, s .1 .0, s .1 .1 .0, s .1 .1 .1 .0, s .1 .1 .1 .1 .0, s .1 .1 .1 .1 .1 .0, class-back (f .«final_class») (fits .final-class));
     }
 
 refusal-shown : (n : ℕ) (f : FrameFields) (b : List ℕ) → frameLength ≤ length b → (n ≡ 0 → ⊥) → n < 16 ^ refusalWidth → refusalIn (framed n f b) ≡ n
@@ -90,7 +90,7 @@ frame-back t long line none =
     let l = line-at t 0 frameDigits (omega arith) (rw (whole-part t frameLength long .is) line) in
     let stand =
     fields-are (frameFields (fieldsIn t)) t 0 (omega arith) (l .digits)
-    (none, (refl, (refl, (refl, (refl, (refl, (refl, (refl, (refl, (sym (byte-back (field t finalStart classWidth)), tt)))))))))) in
+    (none, (refl, (refl, (refl, (refl, (refl, (refl, (refl, (refl, (refl, (sym (byte-back (field t finalStart classWidth)), tt))))))))))) in
     part-whole t (frameLine (fieldsIn t)) frameLength long (parts-joined t 0 frameDigits 1 (written (frameFields (fieldsIn t))) lineEnd stand (l .end))
 
 module _ (n : ℕ) (f : FrameFields) (b : List ℕ) where

@@ -1,4 +1,4 @@
--- The printed lines of specs/WorkedLines.antt are those that document 01 shows.
+-- The printed lines of specs/WorkedLines.antt are those that the papers show.
 use mathlib.Core.Path.{refl}
 use Rattle.hex.specs.Digits.{digits}
 use Rattle.frame.specs.Frame.{frameLine, refusalLine}

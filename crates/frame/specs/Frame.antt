@@ -1,4 +1,4 @@
--- The printed frame of document 01.
+-- The printed frame of document 01, with the size column of document 02, item 1.
 use Prim.Native.Nat.{ℕ}
 use mathlib.Core.Path.{_≡_}
 use mathlib.Core.Bool.{Bool, cond}
@@ -9,7 +9,7 @@ use lib.ListN.{length}
 use Rattle.arithmetic.specs.Lists.{stored}
 use Rattle.arithmetic.specs.Refusals.{Test, _when_, firstRefusal, answered}
 use Rattle.hex.specs.Digits.{written, lineEnd}
-use Rattle.frame.specs.Layout.{refusalWidth, areaWidth, columnWidth, flagWidth, rowWidth, placeWidth, peopleWidth, classWidth, frameLength}
+use Rattle.frame.specs.Layout.{refusalWidth, areaWidth, columnWidth, flagWidth, sizeColumnWidth, rowWidth, placeWidth, peopleWidth, classWidth, frameLength}
 use Rattle.frame.specs.declared.FrameFields.{FrameFields}
 
 -- a final class as a byte: "−1 is ff", and it is the only negative one
@@ -18,13 +18,14 @@ classByte (pos n) = n
 classByte (negsuc n) = 255
 
 -- the fields in their order, each a width and a value: "00; low 8; high 8; column 2; flag 2; table row used 2; place 4;
--- people 8; intrinsic class 2; final class 2"
+-- people 8; intrinsic class 2; final class 2", and "two digits for it after the flag", the size column (document 02, item 1)
 abbrev pub frameFields : FrameFields → List (ℕ × ℕ)
 frameFields f =
-    (refusalWidth, 0) ∷ (areaWidth, f .low) ∷ (areaWidth, f .high) ∷ (columnWidth, f .column) ∷ (flagWidth, f .flag) ∷ (rowWidth, f .«row_used»)
-    ∷ (placeWidth, f .place) ∷ (peopleWidth, f .people) ∷ (classWidth, f .intrinsic) ∷ (classWidth, classByte (f .«final_class»)) ∷ []
+    (refusalWidth, 0) ∷ (areaWidth, f .low) ∷ (areaWidth, f .high) ∷ (columnWidth, f .column) ∷ (flagWidth, f .flag)
+    ∷ (sizeColumnWidth, f .«size_column») ∷ (rowWidth, f .«row_used») ∷ (placeWidth, f .place) ∷ (peopleWidth, f .people)
+    ∷ (classWidth, f .intrinsic) ∷ (classWidth, classByte (f .«final_class»)) ∷ []
 
--- "40 digits and a line end"
+-- 42 digits and a line end
 unfoldable pub frameLine : FrameFields → List ℕ
 frameLine f = written (frameFields f) ++ lineEnd
 
@@ -39,7 +40,7 @@ refusalLine n = written (refusalFields n) ++ lineEnd
 unfoldable pub printed : ℕ → FrameFields → List ℕ
 printed refusal f = cond (eqb refusal 0) (frameLine f) (refusalLine refusal)
 
--- "15 a buffer shorter than 41 bytes, for refused cases too"
+-- "15 a buffer shorter than 41 bytes, for refused cases too"; "refusal 15 now speaks of 43 bytes" (document 02, item 1)
 abbrev pub bufferTooShort : List ℕ → Bool
 bufferTooShort buffer = ltb (length buffer) frameLength
 

@@ -7,7 +7,7 @@ use lib.Dec.{eqb}
 use lib.IntN.{ℤ, pos, negsuc}
 use lib.ListN.{length, drop}
 use Rattle.hex.specs.Digits.{field, isLine}
-use Rattle.frame.specs.Layout.{refusalWidth, areaWidth, columnWidth, flagWidth, rowWidth, placeWidth, peopleWidth, classWidth, refusalStart, lowStart, highStart, columnStart, flagStart, rowStart, placeStart, peopleStart, intrinsicStart, finalStart, frameLength}
+use Rattle.frame.specs.Layout.{refusalWidth, areaWidth, columnWidth, flagWidth, sizeColumnWidth, rowWidth, placeWidth, peopleWidth, classWidth, refusalStart, lowStart, highStart, columnStart, flagStart, sizeColumnStart, rowStart, placeStart, peopleStart, intrinsicStart, finalStart, frameLength}
 use Rattle.frame.specs.Frame.{frameLine, refusalLine, printed, framed}
 use Rattle.frame.specs.declared.FrameFields.{FrameFields}
 
@@ -26,6 +26,7 @@ fieldsIn t =
       high = field t highStart areaWidth;
       column = field t columnStart columnWidth;
       flag = field t flagStart flagWidth;
+      «size_column» = field t sizeColumnStart sizeColumnWidth;
       «row_used» = field t rowStart rowWidth;
       place = field t placeStart placeWidth;
       people = field t peopleStart peopleWidth;
@@ -44,6 +45,7 @@ pub record FrameFits (f : FrameFields) : Type 0 where
   pub high : f .high < 16 ^ areaWidth
   pub column : f .column < 16 ^ columnWidth
   pub flag : f .flag < 16 ^ flagWidth
+  pub size-column : f .«size_column» < 16 ^ sizeColumnWidth
   pub row-used : f .«row_used» < 16 ^ rowWidth
   pub place : f .place < 16 ^ placeWidth
   pub people : f .people < 16 ^ peopleWidth
@@ -56,8 +58,8 @@ pub record Shows (b : List ℕ) (f : FrameFields) : Type 0 where
   pub fields : fieldsIn b ≡ f
 
 pub record FrameLaw : Type 0 where
-  -- "40 digits and a line end"; "two digits and a line end"
-  pub frame-long : (f : FrameFields) → length (frameLine f) ≡ 41
+  -- "refusal 15 now speaks of 43 bytes" (document 02, item 1): 42 digits and a line end; a refusal is "two digits and a line end"
+  pub frame-long : (f : FrameFields) → length (frameLine f) ≡ 43
   pub refusal-long : (n : ℕ) → length (refusalLine n) ≡ 3
   -- a frame that was written shows its fields
   pub fields-shown : (f : FrameFields) (buffer : List ℕ) → frameLength ≤ length buffer → FrameFits f → Shows (framed 0 f buffer) f

@@ -1,6 +1,7 @@
 -- The places of the printed frame: the width of each field in digits, where it starts, and the whole.
 -- "The printed frame has 40 digits and a line end: 00; low 8; high 8; column 2; flag 2; table row used 2; place 4; people 8;
--- intrinsic class 2; final class 2 (−1 is ff)."
+-- intrinsic class 2; final class 2 (−1 is ff)." "The printed frame gains two digits for it after the flag" (document 02, item 1: the size
+-- column), so that it has 42.
 use Prim.Native.Nat.{ℕ, _+_}
 
 abbrev pub refusalWidth : ℕ
@@ -14,6 +15,9 @@ columnWidth = 2
 
 abbrev pub flagWidth : ℕ
 flagWidth = 2
+
+abbrev pub sizeColumnWidth : ℕ
+sizeColumnWidth = 2
 
 abbrev pub rowWidth : ℕ
 rowWidth = 2
@@ -42,8 +46,11 @@ columnStart = highStart + areaWidth
 abbrev pub flagStart : ℕ
 flagStart = columnStart + columnWidth
 
+abbrev pub sizeColumnStart : ℕ
+sizeColumnStart = flagStart + flagWidth
+
 abbrev pub rowStart : ℕ
-rowStart = flagStart + flagWidth
+rowStart = sizeColumnStart + sizeColumnWidth
 
 abbrev pub placeStart : ℕ
 placeStart = rowStart + rowWidth

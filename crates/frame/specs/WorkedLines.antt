@@ -1,4 +1,4 @@
--- Printed lines that document 01 shows.
+-- Printed lines that the papers show.
 use Prim.Native.Nat.{ℕ}
 use mathlib.Core.Path.{_≡_}
 use mathlib.Core.List.{List, [], _∷_}
@@ -8,7 +8,8 @@ use Rattle.frame.specs.Layout.{classWidth}
 use Rattle.frame.specs.Frame.{classByte, frameLine, refusalLine}
 use Rattle.frame.specs.declared.FrameFields.{FrameFields}
 
--- the fields of P16, and its line `000000c7ea0000c7eb0100050000000000080504` with the line end
+-- the fields of P16, and its line `000000c7ea0000c7eb0100050000000000080504` with "01 at P16" (document 02, item 1) after the flag, and the
+-- line end
 abbrev pub p16Fields : FrameFields
 p16Fields =
     record {
@@ -16,6 +17,7 @@ p16Fields =
       high = 51179;
       column = 1;
       flag = 0;
+      «size_column» = 1;
       «row_used» = 5;
       place = 0;
       people = 8;
@@ -26,7 +28,7 @@ p16Fields =
 abbrev pub p16Line : List ℕ
 p16Line =
     48 ∷ 48 ∷ 48 ∷ 48 ∷ 48 ∷ 48 ∷ 99 ∷ 55 ∷ 101 ∷ 97 ∷ 48 ∷ 48 ∷ 48 ∷ 48
-    ∷ 99 ∷ 55 ∷ 101 ∷ 98 ∷ 48 ∷ 49 ∷ 48 ∷ 48 ∷ 48 ∷ 53 ∷ 48 ∷ 48 ∷ 48 ∷ 48
+    ∷ 99 ∷ 55 ∷ 101 ∷ 98 ∷ 48 ∷ 49 ∷ 48 ∷ 48 ∷ 48 ∷ 49 ∷ 48 ∷ 53 ∷ 48 ∷ 48 ∷ 48 ∷ 48
     ∷ 48 ∷ 48 ∷ 48 ∷ 48 ∷ 48 ∷ 48 ∷ 48 ∷ 56 ∷ 48 ∷ 53 ∷ 48 ∷ 52 ∷ 10 ∷ []
 
 pub record WorkedLines : Type 0 where

@@ -18,6 +18,8 @@ const COLUMN_WIDTH: usize = 2;
 
 const FLAG_WIDTH: usize = 2;
 
+const SIZE_COLUMN_WIDTH: usize = 2;
+
 const ROW_WIDTH: usize = 2;
 
 const PLACE_WIDTH: usize = 4;
@@ -35,7 +37,9 @@ const COLUMN: usize = HIGH + AREA_WIDTH;
 
 const FLAG: usize = COLUMN + COLUMN_WIDTH;
 
-const ROW: usize = FLAG + FLAG_WIDTH;
+const SIZE_COLUMN: usize = FLAG + FLAG_WIDTH;
+
+const ROW: usize = SIZE_COLUMN + SIZE_COLUMN_WIDTH;
 
 const PLACE: usize = ROW + ROW_WIDTH;
 
@@ -60,6 +64,7 @@ pub struct FrameFields {
     pub high: u64,
     pub column: u8,
     pub flag: u8,
+    pub size_column: u8,
     pub row_used: u8,
     pub place: u32,
     pub people: u64,
@@ -84,20 +89,21 @@ fn write_area_fields(buffer: &mut [u8], f: FrameFields)
     write_digits(&mut buffer[HIGH..COLUMN], f.high);
 }
 
-// The fields after these: column, flag and table row used.
+// The fields after these: column, flag, size column and table row used.
 fn write_column_fields(buffer: &mut [u8], f: FrameFields)
     requires { ⌜ frameLength ≤ length (now buffer) ⌝ }
-    ensures { λ _. ⌜ now (buffer .exit) ≡ stored columnStart (written (take 3 (drop 3 (frameFields f)))) (now (buffer .entry)) ⌝ }
+    ensures { λ _. ⌜ now (buffer .exit) ≡ stored columnStart (written (take 4 (drop 3 (frameFields f)))) (now (buffer .entry)) ⌝ }
 {
     write_digits(&mut buffer[COLUMN..FLAG], f.column as u64);
-    write_digits(&mut buffer[FLAG..ROW], f.flag as u64);
+    write_digits(&mut buffer[FLAG..SIZE_COLUMN], f.flag as u64);
+    write_digits(&mut buffer[SIZE_COLUMN..ROW], f.size_column as u64);
     write_digits(&mut buffer[ROW..PLACE], f.row_used as u64);
 }
 
 // The last fields: place, people and both classes.
 fn write_class_fields(buffer: &mut [u8], f: FrameFields)
     requires { ⌜ frameLength ≤ length (now buffer) ⌝ }
-    ensures { λ _. ⌜ now (buffer .exit) ≡ stored placeStart (written (drop 6 (frameFields f))) (now (buffer .entry)) ⌝ }
+    ensures { λ _. ⌜ now (buffer .exit) ≡ stored placeStart (written (drop 7 (frameFields f))) (now (buffer .entry)) ⌝ }
 {
     let last = class_byte(f.final_class);
     write_digits(&mut buffer[PLACE..PEOPLE], f.place as u64);

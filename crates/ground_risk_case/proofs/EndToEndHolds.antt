@@ -16,9 +16,10 @@ use Rattle.arithmetic.proofs.RefusalLaws.{one-of-le, one-of-more, answered-one-
 use Rattle.arithmetic.proofs.TestLaws.{cond-le}
 use Rattle.columns.specs.Column.{lastLimit}
 use Rattle.columns.proofs.ColumnLaws.{column-max}
+use Rattle.columns.proofs.SizeColumnPromiseHolds.{size-column-promise}
 use Rattle.sheet.specs.Sheet.{linesOf, sheetOf}
 use Rattle.sheet.specs.declared.SheetAnswer.{SheetAnswer}
-use Rattle.sheet.proofs.LineLaws.{lines-column}
+use Rattle.sheet.proofs.LineLaws.{lines-column, lines-size-column}
 use Rattle.sheet.proofs.AcceptanceHolds.{refused-exactly-when, sheet-promise}
 use Rattle.exact_area.specs.ExactArea.{exactArea}
 use Rattle.exact_area.specs.Accuracy.{AreaIsAccurate}
@@ -47,12 +48,13 @@ class-fits (negsuc n) h k = omega (arith, leb→le n 0 (h .le))
 -- an accepted sheet's numbers are no longer than their fields
 sheet-fits : (w m v : ℕ) → sheetOf w m v .refusal ≡ 0 → AreaIsAccurate w m v (sheetOf w m v .sheet) →
     (sheetOf w m v .sheet .area .low ≤ lastLimit) × (sheetOf w m v .sheet .area .high ≤ lastLimit) × (sheetOf w m v .sheet .column ≤ 5)
+    × (sheetOf w m v .sheet .«size_column» ≤ 5)
 sheet-fits w m v e a =
     let is : sheetOf w m v .sheet ≡ linesOf w m v = ap (λ (x : SheetAnswer). x .sheet) (sheet-promise w m v .if-accepted e)
     in let high : sheetOf w m v .sheet .area .high ≤ lastLimit = rw is (refused-exactly-when w m v .none .0 e .1)
     in let low : sheetOf w m v .sheet .area .low over 1 ⊑ sheetOf w m v .sheet .area .high over 1 =
     trans-le _ (exactArea w m v) _ (a .denominator-above-zero) (a .low-at-most) (a .high-at-least)
-    in (omega arith, high, rw (is, lines-column w m v) (column-max _))
+    in (omega arith, high, rw (is, lines-column w m v) (column-max _), rw (is, lines-size-column w m v) (size-column-promise .in-table w v))
 
 module _ (q : Question) (none : assessmentOf q .refusal ≡ 0) where
   parts : AssessmentParts q
@@ -74,6 +76,7 @@ module _ (q : Question) (none : assessmentOf q .refusal ≡ 0) where
         high = rw (parts .sheet) (omega arith);
         column = rw (parts .sheet) (omega arith);
         flag = rw (parts .sheet) (omega (arith, demand .columns .flag-zero-or-one));
+        size-column = rw (parts .sheet) (omega arith);
         row-used = rw (parts .row-used) (omega (arith, cond-le (eqb (q .controlled) 1) {a = 1} {b = footprintAsked q .row} {k = 7} (omega arith) (ranges .row-le)));
         place = rw (parts .footprint) (omega (arith, ranges .place-lt));
         people = rw (parts .footprint) (omega (arith, ranges .people-le));

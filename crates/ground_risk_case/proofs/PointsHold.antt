@@ -17,8 +17,9 @@ use Rattle.arithmetic.proofs.ListLaws.{length-tabulate, tabulate-at}
 use Rattle.arithmetic.proofs.RefusalLaws.{accepted-by}
 use Rattle.arithmetic.proofs.TestLaws.{lt-or-le, cond-le}
 use Rattle.columns.specs.Column.{columnBy, columnOf, flagOf}
+use Rattle.columns.specs.SizeColumn.{sizeColumnOf}
 use Rattle.sheet.specs.Lines.{runOf, savingOf, totalOf, formulaOf, areaOf}
-use Rattle.sheet.specs.Sheet.{withLines, linesOf, sheetOf}
+use Rattle.sheet.specs.Sheet.{withLines, linesWithSizeColumn, sheetWithSizeColumn}
 use Rattle.sheet.specs.Points.{sheetPoints}
 use Rattle.sheet.proofs.PointsHold.{sheet-points-hold}
 use Rattle.map.specs.Points.{rowPoints}
@@ -56,7 +57,7 @@ told a = record { refusal = a .refusal; fields = printedFields a }
 
 p16-assessment : (filled : MapBuffers) → P16Map (filled .counts) (filled .marks)
     → told (assessmentOf (questionOf p16Head filled)) ≡ record { refusal = 0; fields = p16Fields }
-unfolding assessmentOf assessedBy workingOn afterFootprint afterClass sheetOf linesOf withLines flagOf columnOf columnBy areaOf formulaOf totalOf savingOf runOf divUp intrinsicClassOf classAt finalClassOf creditAt anyBelow
+unfolding assessmentOf assessedBy workingOn afterFootprint afterClass sheetWithSizeColumn linesWithSizeColumn withLines flagOf columnOf columnBy sizeColumnOf areaOf formulaOf totalOf savingOf runOf divUp intrinsicClassOf classAt finalClassOf creditAt anyBelow
 p16-assessment filled h = rw (p16-footprint (filled .counts) (filled .marks) h)
 
 p16-line : printed 0 p16Fields ≡ p16Line

@@ -19,6 +19,7 @@ printedFields a =
       high = a .sheet .area .high;
       column = a .sheet .column;
       flag = a .sheet .flag;
+      «size_column» = a .sheet .«size_column»;
       «row_used» = a .«row_used»;
       place = a .footprint .place;
       people = a .footprint .people;

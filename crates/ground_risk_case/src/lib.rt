@@ -21,6 +21,7 @@ fn printed_fields(a: Assessment) -> FrameFields
         high: area.high,
         column: sheet.column,
         flag: sheet.flag,
+        size_column: sheet.size_column,
         row_used: a.row_used,
         place: footprint.place,
         people: footprint.people,

@@ -12,6 +12,7 @@ use assessment::Assessment;
 use assessment::assess;
 use case_text::Reading;
 use case_text::read_case;
+use columns::size_column;
 use footprint::Footprint;
 use footprint::footprint_on_map;
 use frame::FrameFields;
@@ -22,14 +23,16 @@ use risk_class::IntrinsicClass;
 use risk_class::final_class;
 use risk_class::intrinsic_class;
 use sheet::SheetAnswer;
-use sheet::sheet_of;
+use sheet::sheet_with_size_column;
 
-// The aircraft's sheet.
+// The aircraft's sheet, by the two calls that sheet_of makes. sheet_of is too large for the compiler to put it in place at two callers,
+// and a call of it copies the answer; its two parts are small enough.
 #[no_mangle]
 pub extern "C" fn nb_sheet(dimension: u32, mass: u32, speed: u32) -> SheetAnswer
     ensures { λ r. ⌜ r ≡ sheetOf dimension mass speed ⌝ }
 {
-    sheet_of(dimension, mass, speed)
+    let size = size_column(dimension, speed);
+    sheet_with_size_column(dimension, mass, speed, size)
 }
 
 // The footprint on a lent map.

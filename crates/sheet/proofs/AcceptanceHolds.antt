@@ -4,13 +4,13 @@ use Prim.Native.Nat.{ℕ}
 use borrow.Author.Tests.{ltb-true, ltb-false, lt-ltb, le-ltb}
 use Rattle.arithmetic.proofs.RefusalLaws.{use-of}
 use Rattle.arithmetic.proofs.RefusalsHold.{answer-promise}
-use Rattle.sheet.specs.Sheet.{sheetTests, sheetOf}
+use Rattle.sheet.specs.Sheet.{sheetTests, sheetWithSizeColumn}
 use Rattle.sheet.specs.Acceptance.{RefusedExactlyWhen, SheetPromise}
 use Rattle.sheet.proofs.RangeLaws.{within, tests-fail}
 
 module _ (w m v : ℕ) where
   pub sheet-promise : SheetPromise w m v
-  unfolding sheetOf
+  unfolding sheetWithSizeColumn
   sheet-promise = answer-promise _ _ _ refl (λ n. refl) (sheetTests w m v) refl
 
   pub refused-exactly-when : RefusedExactlyWhen w m v

@@ -5,7 +5,7 @@ use native.Mathlib.Omega.{arith}
 use lib.Dec.{lit<}
 use Rattle.arithmetic.proofs.RoundingLaws.{down-mono, up-mono, down-anti, up-anti}
 use Rattle.sheet.specs.Lines.{Formula, whole, sixTenths, glideOnly, fullWidth, glideOf, formulaOf, runRate, runScale, runOf, savingTimesMass, savingOf, totalAt, totalOf, areaNum, areaDen, areaOf}
-use Rattle.sheet.specs.Sheet.{linesOf, withLines}
+use Rattle.sheet.specs.Sheet.{withLines, linesWithSizeColumn}
 use Rattle.sheet.specs.Growth.{AreaGrowsWithMassAndSpeed}
 use Rattle.sheet.proofs.FormulaLaws.{denominator-pos}
 
@@ -32,7 +32,7 @@ numerator-grows sixTenths a a′ g s s′ ha hs = mul-le-mul-left 3 (total-grows
 numerator-grows glideOnly a a′ g s s′ ha hs = omega (arith, mul-le-mul-right g ha, mul-le-mul ha ha)
 
 pub area-grows : AreaGrowsWithMassAndSpeed
-unfolding linesOf withLines areaOf totalOf
+unfolding linesWithSizeColumn withLines areaOf totalOf
 area-grows w m m′ v v′ p hm hv =
     let run = run-grows v v′ hv
     in let saving = saving-falls m m′ (omega arith) hm

@@ -6,10 +6,11 @@ use native.Mathlib.Omega.{arith}
 use lib.Dec.{lit<}
 use Rattle.arithmetic.specs.Rounding.{divUp}
 use Rattle.arithmetic.proofs.RoundingLaws.{down-low, down-high, up-high, up-le}
+use Rattle.columns.specs.SizeColumn.{sizeColumnOf}
 use Rattle.columns.specs.Column.{columnOf, flagOf}
 use Rattle.sheet.specs.Ranges.{speedMax, InRange}
 use Rattle.sheet.specs.Lines.{Formula, whole, sixTenths, glideOnly, fullWidth, glideOf, runRate, runScale, runOf, savingTimesMass, savingOf, slideOf, totalAt, totalOf, formulaOf, glideOnlyAt, areaNum, areaDen, areaOf}
-use Rattle.sheet.specs.Sheet.{linesOf, withLines}
+use Rattle.sheet.specs.Sheet.{linesOf, withLines, linesWithSizeColumn}
 use Rattle.sheet.proofs.FormulaLaws.{denominator-pos}
 
 -- ---- the low end at most, the high end at least, what is rounded
@@ -36,21 +37,26 @@ areaNumAt f a glide slide = areaNum f a glide (totalAt a glide slide)
 
 module _ (w m v : ℕ) where
   pub area-rounded-down : linesOf w m v .area .low * areaDen (formulaOf w) ≤ areaNumAt (formulaOf w) (fullWidth w) (glideOf .low) (slideOf (runOf v) (savingOf m) .low)
-  unfolding linesOf withLines areaOf totalOf
+  unfolding linesWithSizeColumn withLines areaOf totalOf
   area-rounded-down = down-low _ (areaDen (formulaOf w))
 
   pub area-rounded-up : areaNumAt (formulaOf w) (fullWidth w) (glideOf .high) (slideOf (runOf v) (savingOf m) .high) ≤ linesOf w m v .area .high * areaDen (formulaOf w)
-  unfolding linesOf withLines areaOf totalOf
+  unfolding linesWithSizeColumn withLines areaOf totalOf
   area-rounded-up = up-high _ (areaDen (formulaOf w)) (denominator-pos (formulaOf w))
 
   -- the column and the flag are those of the area
   pub lines-column : linesOf w m v .column ≡ columnOf (linesOf w m v .area .high)
-  unfolding linesOf withLines
+  unfolding linesWithSizeColumn withLines
   lines-column = refl
 
   pub lines-flag : linesOf w m v .flag ≡ flagOf (linesOf w m v .area .low) (columnOf (linesOf w m v .area .high))
-  unfolding linesOf withLines
+  unfolding linesWithSizeColumn withLines
   lines-flag = refl
+
+  -- the size column is the aircraft's own
+  pub lines-size-column : linesOf w m v .«size_column» ≡ sizeColumnOf w v
+  unfolding linesWithSizeColumn withLines
+  lines-size-column = refl
 
 -- ---- how far the ends lie apart
 
@@ -92,5 +98,5 @@ formula-width glideOnly a g s t h = glide-only-width (glideOnlyAt a g) (glideOnl
 
 -- the two areas differ by at most a twenty-thousandth of the full width, rounded up, and one
 pub area-width : (w m v : ℕ) → InRange w m v → linesOf w m v .area .high ≤ linesOf w m v .area .low + 1 + divUp (fullWidth w) 20000
-unfolding linesOf withLines areaOf totalOf
+unfolding linesWithSizeColumn withLines areaOf totalOf
 area-width w m v r = formula-width (formulaOf w) (fullWidth w) (glideOf .low) _ _ (slide-width m v (omega arith) (r .speed-most))

@@ -2,7 +2,7 @@
 ghost use mathlib.Core.Path.{_≡_};
 ghost use Rattle.arithmetic.specs.Refusals.{firstRefusal};
 ghost use Rattle.sheet.specs.Ranges.{InRange};
-ghost use Rattle.sheet.specs.Sheet.{zeroSheet, refusedSheet, rangeTests, sheetOf};
+ghost use Rattle.sheet.specs.Sheet.{zeroSheet, refusedSheet, rangeTests, sheetWithSizeColumn, sheetOf};
 
 mod lines;
 
@@ -16,9 +16,10 @@ use crate::lines::total;
 use columns::Bracket;
 use columns::LAST_LIMIT;
 use columns::column_and_flag;
+use columns::size_column;
 
-// Lines 1 to 6, the column and the flag. Lengths are in micrometres, the total (T of document 01) in thousandths of a square
-// millimetre, the area in square centimetres.
+// Lines 1 to 6, the column, the flag and the size column. Lengths are in micrometres, the total (T of document 01) in thousandths
+// of a square millimetre, the area in square centimetres.
 #[repr(C)]
 pub struct Sheet {
     pub glide: Bracket,
@@ -29,6 +30,8 @@ pub struct Sheet {
     pub area: Bracket,
     pub column: u8,
     pub flag: u8,
+    // by dimension and speed alone, 0 where no size is large enough; the class comes from the area's column
+    pub size_column: u8,
 }
 
 // A refusal number, 0 for none, and the sheet, all zeros where it is refused.
@@ -79,6 +82,7 @@ impl Sheet {
             area: zero,
             column: 0,
             flag: 0,
+            size_column: 0,
         }
     }
 }
@@ -91,9 +95,9 @@ fn refused_with(refusal: u8) -> SheetAnswer
 }
 
 // The sheet of an aircraft within its ranges, or refusal 4.
-fn sheet_in_range(dimension: u64, mass: u64, speed: u64) -> SheetAnswer
+fn sheet_in_range(dimension: u64, mass: u64, speed: u64, size_column: u8) -> SheetAnswer
     requires { ⌜ InRange dimension mass speed ⌝ }
-    ensures { λ r. ⌜ r ≡ sheetOf dimension mass speed ⌝ }
+    ensures { λ r. ⌜ r ≡ sheetWithSizeColumn dimension mass speed «size_column» ⌝ }
 {
     let glide = glide();
     let run = run(speed);
@@ -114,17 +118,26 @@ fn sheet_in_range(dimension: u64, mass: u64, speed: u64) -> SheetAnswer
         area,
         column: found.column,
         flag: found.flag,
+        size_column,
     };
     SheetAnswer { refusal: 0, sheet }
+}
+
+// sheet_of with any size column in the aircraft's own place: small enough for the compiler to put it in place at two callers.
+pub fn sheet_with_size_column(dimension: u32, mass: u32, speed: u32, size_column: u8) -> SheetAnswer
+    ensures { λ r. ⌜ r ≡ sheetWithSizeColumn dimension mass speed «size_column» ⌝ }
+{
+    let refusal = Sheet::range_refusal(dimension, mass, speed);
+    if refusal != 0 {
+        return refused_with(refusal);
+    }
+    sheet_in_range(dimension as u64, mass as u64, speed as u64, size_column)
 }
 
 // The sheet of an aircraft: dimension in mm, mass in g, speed in cm/s. Refusals: 1 dimension, 2 mass, 3 speed, 4 area.
 pub fn sheet_of(dimension: u32, mass: u32, speed: u32) -> SheetAnswer
     ensures { λ r. ⌜ r ≡ sheetOf dimension mass speed ⌝ }
 {
-    let refusal = Sheet::range_refusal(dimension, mass, speed);
-    if refusal != 0 {
-        return refused_with(refusal);
-    }
-    sheet_in_range(dimension as u64, mass as u64, speed as u64)
+    let size = size_column(dimension, speed);
+    sheet_with_size_column(dimension, mass, speed, size)
 }

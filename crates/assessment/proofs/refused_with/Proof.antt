@@ -10,7 +10,7 @@ refused-requires-2 : tie.Need-refused-requires-2
 refused-requires-2 c κs = search needs
 
 returns : tie.Need-returns
-returns c = cc
+returns c = rw (c .before .refused .ensures, c .refused2 .ensures)
 
 pub refused-with-spec : {M : Type 1} → statement M
 refused-with-spec = tie.close (tie.spec refused-requires refused-requires-2 returns)

@@ -86,9 +86,9 @@ returns c =
     let at0 = at1 .before .before .before in
     let start = at0 .before .before .before in
     let f = start .args .f in
-    let told = at0 .before .struct-told .given .1 .1 .1 .1 .1 .1 .1 .1 in
+    let told = at0 .before .struct-told .given .1 .1 .1 .1 .1 .1 .1 .1 .1 in
     let last = at0 .class-byte .ensures ∙ ap classByte (toZ-ofZ w8 (f .«final_class») (search)) in
-    fields-stored (drop 6 (frameFields f))
+    fields-stored (drop 7 (frameFields f))
     (at1 .write-digits .last .0 ∷ at2 .write-digits2 .last .0 ∷ at3 .write-digits3 .last .0 ∷ at4 .write-digits4 .last .0 ∷ [])
     (now (start .args .buffer)) placeStart (omega (arith, start .pre))
     (at1 .write-digits .ensures, (at2 .write-digits2 .ensures, (at3 .write-digits3 .ensures, (at4 .write-digits4 .ensures ∙ ap (digits _) last, tt))))

@@ -55,19 +55,35 @@ cast-write-digits-3 c = search needs
 write-digits-requires-3 : tie.Need-write-digits-requires-3
 write-digits-requires-3 c κs = search needs
 
+sub-write-digits-4 : tie.Need-sub-write-digits-4
+sub-write-digits-4 c = search needs
+
+part-write-digits-start-4 : tie.Need-part-write-digits-start-4
+part-write-digits-start-4 c = search needs
+
+part-write-digits-end-4 : tie.Need-part-write-digits-end-4
+part-write-digits-end-4 c = search needs
+
+cast-write-digits-4 : tie.Need-cast-write-digits-4
+cast-write-digits-4 c = search needs
+
+write-digits-requires-4 : tie.Need-write-digits-requires-4
+write-digits-requires-4 c κs = search needs
+
 same-length : tie.Need-same-length
 same-length c = search needs
 
 returns : tie.Need-returns
 returns c =
-    let at3 = c .before .before in
+    let at4 = c .before .before in
+    let at3 = at4 .before .before .before .before .before in
     let at2 = at3 .before .before .before .before .before in
     let at1 = at2 .before .before .before .before .before in
     let start = at1 .before .before .before .before in
-    fields-stored (take 3 (drop 3 (frameFields (start .args .f))))
-    (at1 .write-digits .last .0 ∷ at2 .write-digits2 .last .0 ∷ at3 .write-digits3 .last .0 ∷ [])
+    fields-stored (take 4 (drop 3 (frameFields (start .args .f))))
+    (at1 .write-digits .last .0 ∷ at2 .write-digits2 .last .0 ∷ at3 .write-digits3 .last .0 ∷ at4 .write-digits4 .last .0 ∷ [])
     (now (start .args .buffer)) columnStart (omega (arith, start .pre))
-    (at1 .write-digits .ensures, (at2 .write-digits2 .ensures, (at3 .write-digits3 .ensures, tt)))
+    (at1 .write-digits .ensures, (at2 .write-digits2 .ensures, (at3 .write-digits3 .ensures, (at4 .write-digits4 .ensures, tt))))
 
 pub write-column-fields-spec : {M : Type 1} → statement M
 write-column-fields-spec =
@@ -88,5 +104,10 @@ write-column-fields-spec =
     part-write-digits-end-3
     cast-write-digits-3
     write-digits-requires-3
+    sub-write-digits-4
+    part-write-digits-start-4
+    part-write-digits-end-4
+    cast-write-digits-4
+    write-digits-requires-4
     same-length
     returns)

@@ -1,4 +1,5 @@
 -- `frame::write_frame` meets its contract.
+use native.Mathlib.Omega.{arith}
 use borrow.Author.Needs.{needs}
 use Rattle.frame.proofs.WaysOut.{not-written, line-written, printed-refusal, printed-fields}
 use Rattle.frame.proofs.write_frame.Statement.{statement}
@@ -16,7 +17,7 @@ returns c =
     rw (printed-refusal _ _ (write .before .before .if1 .taken)) (write .write-refusal .ensures)
 
 returns-2 : tie.Need-returns-2
-returns-2 c = not-written _ _ (c .if2 .taken)
+returns-2 c = not-written _ _ (omega (arith, c .if2 .taken))
 
 write-fields-requires : tie.Need-write-fields-requires
 write-fields-requires c κs = search needs

@@ -1,11 +1,12 @@
 -- `print_case` answers and leaves what the definitions say.
 use Rattle.ground_risk_case.proofs.WaysOut.{refused-15, ended-by-reading, not-ended}
+use native.Mathlib.Omega.{arith}
 use borrow.Author.Needs.{needs}
 use Rattle.ground_risk_case.proofs.print_case.Statement.{statement}
 use Rattle.ground_risk_case.proofs.print_case.Tie as tie
 
 returns : tie.Need-returns
-returns c = refused-15 _ _ (c .if1 .taken)
+returns c = refused-15 _ _ (omega (arith, c .if1 .taken))
 
 read-case-requires : tie.Need-read-case-requires
 read-case-requires c κs = search needs

@@ -58,7 +58,7 @@ returns c =
     let at-glide = at-run .before in
     let start = at-glide .before in
     let args = start .args in
-    c .refused-with .ensures ∙ refused-4 (args .mass) (args .speed) (at-run .run .ensures) (at-saving .saving .ensures) (at-slide .slide .ensures) (args .dimension) (at-glide .glide .ensures) (at-total .total .ensures) (at-area .area .ensures) (start .pre) (tested .if1 .taken)
+    c .refused-with .ensures ∙ refused-4 (args .mass) (args .speed) (at-run .run .ensures) (at-saving .saving .ensures) (at-slide .slide .ensures) (args .dimension) (at-glide .glide .ensures) (at-total .total .ensures) (at-area .area .ensures) (args .size-column) (start .pre) (tested .if1 .taken)
 
 column-and-flag-requires : tie.Need-column-and-flag-requires
 column-and-flag-requires c κs = search needs
@@ -74,7 +74,7 @@ returns-2 c =
     let at-glide = at-run .before in
     let start = at-glide .before in
     let args = start .args in
-    accepted (args .mass) (args .speed) (at-run .run .ensures) (at-saving .saving .ensures) (at-slide .slide .ensures) (args .dimension) (at-glide .glide .ensures) (at-total .total .ensures) (at-area .area .ensures) (start .pre) (c .column-and-flag .ensures) (tested .if1 .left)
+    accepted (args .mass) (args .speed) (at-run .run .ensures) (at-saving .saving .ensures) (at-slide .slide .ensures) (args .dimension) (at-glide .glide .ensures) (at-total .total .ensures) (at-area .area .ensures) (args .size-column) (start .pre) (c .column-and-flag .ensures) (tested .if1 .left)
 
 pub sheet-in-range-spec : {M : Type 1} → statement M
 sheet-in-range-spec =

@@ -1,40 +1,20 @@
--- `sheet_of` gives the sheet or its refusal.
-use mathlib.Core.Path.{refl, sym, _∙_}
+-- `sheet_of` gives the sheet with the aircraft's own size column.
 use borrow.Author.Needs.{needs}
-use Rattle.arithmetic.proofs.RefusalLaws.{refused-before}
-use Rattle.sheet.specs.Sheet.{linesOf, refusedSheet, acceptedSheet, rangeTests, areaTests, sheetOf}
-use Rattle.sheet.proofs.RangeLaws.{in-range}
+use Rattle.sheet.proofs.LinesMade.{with-own-size-column}
 use Rattle.sheet.proofs.sheet_of.Statement.{statement}
 use Rattle.sheet.proofs.sheet_of.Tie as tie
 
-range-refusal-requires : tie.Need-range-refusal-requires
-range-refusal-requires c κs = search needs
+size-column-requires : tie.Need-size-column-requires
+size-column-requires c κs = search needs
 
-refused-with-requires : tie.Need-refused-with-requires
-refused-with-requires c κs = search needs
+sheet-with-size-column-requires : tie.Need-sheet-with-size-column-requires
+sheet-with-size-column-requires c κs = search needs
 
 returns : tie.Need-returns
-unfolding sheetOf
 returns c =
-    let ranges = c .before .before in
-    let args = ranges .before .args in
-    let lines = linesOf (args .dimension) (args .mass) (args .speed) in
-    c .refused-with .ensures
-    ∙ refused-before (acceptedSheet lines) refusedSheet (rangeTests (args .dimension) (args .mass) (args .speed)) (areaTests lines) refl (ranges .range-refusal .ensures) (c .before .if1 .taken)
-
-sheet-in-range-requires : tie.Need-sheet-in-range-requires
-sheet-in-range-requires c κs =
-    let ranges = c .before in in-range _ _ _ (sym (ranges .range-refusal .ensures) ∙ c .if1 .left)
-
-returns-2 : tie.Need-returns-2
-returns-2 c = c .sheet-in-range .ensures
+    let found = c .before in
+    let args = found .before .args in
+    with-own-size-column (args .dimension) (args .mass) (args .speed) (found .size-column .ensures) (c .sheet-with-size-column .ensures)
 
 pub sheet-of-spec : {M : Type 1} → statement M
-sheet-of-spec =
-    tie.close
-    (tie.spec
-    range-refusal-requires
-    refused-with-requires
-    returns
-    sheet-in-range-requires
-    returns-2)
+sheet-of-spec = tie.close (tie.spec size-column-requires sheet-with-size-column-requires returns)

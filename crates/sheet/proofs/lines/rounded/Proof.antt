@@ -1,4 +1,5 @@
 -- `rounded` rounds the low end down and the high end up.
+use mathlib.Core.Path.{refl}
 use Rattle.arithmetic.specs.Rounding.{divUp}
 use borrow.Author.Needs.{needs}
 use Rattle.sheet.proofs.lines.rounded.Statement.{statement}
@@ -18,7 +19,7 @@ div-up c = search needs
 
 returns : tie.Need-returns
 unfolding divUp
-returns c = cc
+returns c = refl
 
 pub rounded-spec : {M : Type 1} → statement M
 rounded-spec = tie.close (tie.spec div-down sub-up add-up div-up returns)
