@@ -1,0 +1,3 @@
+pub mod SafetyFactor
+pub mod HighAngle
+pub mod Promises
