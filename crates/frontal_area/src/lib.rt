@@ -23,3 +23,26 @@ pub fn multirotor_refusal(dimension: u32, mass: u32, speed: u32) -> u8
         0
     }
 }
+
+// The frontal area in square millimetres, of a dimension in mm. The lines rise by 200, 400, 2,500 / 3 and 625 for each mm; the third
+// alone is rounded. Before the first point and past the last it is that point's.
+pub fn frontal_area(dimension: u64) -> u64
+    ensures { λ r. ⌜ r ≡ frontalArea dimension ⌝ }
+{
+    if dimension <= 1_000 {
+        return 100_000;
+    }
+    if dimension <= 3_000 {
+        return 100_000 + 200 * (dimension - 1_000);
+    }
+    if dimension <= 8_000 {
+        return 500_000 + 400 * (dimension - 3_000);
+    }
+    if dimension <= 20_000 {
+        return 2_500_000 + 2_500 * (dimension - 8_000) / 3;
+    }
+    if dimension <= 40_000 {
+        return 12_500_000 + 625 * (dimension - 20_000);
+    }
+    25_000_000
+}

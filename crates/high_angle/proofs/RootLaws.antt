@@ -3,12 +3,13 @@ use mathlib.Core.Path.{_≡_, refl}
 use mathlib.Core.Bool.{Bool, true, false, cond}
 use mathlib.Core.Logic.{⊎-elim}
 use Prim.Native.Nat.{ℕ, zero, suc, _+_, _*_, _^_, _≤_, _<_}
-use native.Mathlib.Nat.{pow-le-pow-left, pow-lt-pow-left, pow-suc, pow-zero, one-mul, le-of-suc-le-suc, le-antisymm, le-trans}
+use native.Mathlib.Nat.{pow-le-pow-left, pow-lt-pow-left, pow-suc, pow-zero, one-mul, le-of-suc-le-suc, le-antisymm, le-trans, mul-le-mul}
 use native.Mathlib.Omega.{arith}
 use lib.Dec.{leb, ltb}
 use borrow.Author.Tests.{leb-true, leb-false, ltb-true, ltb-false}
 use Rattle.arithmetic.proofs.TestLaws.{lt-or-le}
 use Rattle.high_angle.specs.SafetyFactor.{largest, smallest}
+use Rattle.high_angle.specs.PrivateBounds.{baseMax}
 
 pub product : (f : ℕ) → f ^ 5 ≡ f * f * f * f * f
 product f = simp (pow-suc f 4, pow-suc f 3, pow-suc f 2, pow-suc f 1, pow-suc f 0, pow-zero, one-mul)
@@ -99,3 +100,13 @@ module _ (n x y : ℕ) (h : x ≤ y) where
 
   pub smallest-mono : y ≤ n ^ 5 → smallest n x ≤ smallest n y
   smallest-mono t = smallest-low x n (smallest n y) (le-trans h (smallest-high y n t))
+
+-- a fifth power fits 64 bits
+pub power-fits : (f : ℕ) → f ≤ baseMax → (f * f ≤ 7131 * 7131) × (f * f * (f * f) ≤ 7131 * 7131 * (7131 * 7131)) × (f * f * (f * f) * f ≤ 7131 * 7131 * (7131 * 7131) * 7131)
+power-fits f h =
+    let square : f * f ≤ 7131 * 7131 = mul-le-mul h h in
+    let fourth : f * f * (f * f) ≤ 7131 * 7131 * (7131 * 7131) = mul-le-mul square square in
+    (square, fourth, mul-le-mul fourth h)
+
+pub power-is : (f : ℕ) → f * f * (f * f) * f ≡ f ^ 5
+power-is f = rw (product f) (omega arith)
