@@ -52,6 +52,9 @@ SIZE_PAIRS = ((1_000, 2_500), (3_000, 3_500), (8_000, 7_500), (20_000, 12_000), 
 #  decimals are the definition)."
 TAN = Fraction("0.7002075382")
 COS = Fraction("0.8191520443")
+# "3.14 × D²" and "9.81", of both models
+PI = Fraction("3.14")
+GRAVITY = Fraction("9.81")
 
 
 def within(value, limits):
@@ -88,7 +91,7 @@ def exact_slide(m, v):
     speed = Fraction(v, 100)
     mass = Fraction(m, 1000)
     slide = ((Fraction("0.65") * COS * speed) ** 2 - 580 / mass) / (
-        2 * Fraction("0.75") * Fraction("9.81"))
+        2 * Fraction("0.75") * GRAVITY)
     return max(slide, Fraction(0))
 
 
@@ -107,8 +110,8 @@ def exact_d(w):
 
 
 def exact_circle(w):
-    # "3.14 × D²", of both models
-    return Fraction("3.14") * exact_d(w) ** 2
+    # "3.14 × D²"
+    return PI * exact_d(w) ** 2
 
 
 def exact_area(w, m, v):
@@ -270,6 +273,9 @@ FRONTAL_POINTS = ((1_000, 100_000), (3_000, 500_000), (8_000, 2_500_000),
                   (20_000, 12_500_000), (40_000, 25_000_000))
 # "16 when, after 1 to 3, the dimension is outside 1,000 to 40,000 mm."
 FRONTAL_RANGE = (1_000, 40_000)
+# "1.225 × 0.8 × frontal area": by chapter 5 of 002 the air density and the drag coefficient
+AIR_DENSITY = Fraction("1.225")
+DRAG_COEFFICIENT = Fraction("0.8")
 # "The factor is 2.3 below 12,000 J and 7 above 3,125,000 J. Between them it is
 #  1.4 times the fifth root of the energy in kJ."
 ROOT_FROM, ROOT_TO = 12_000, 3_125_000
@@ -297,7 +303,7 @@ def exact_energy(w, m):
     #  area), in kg and square metres"
     mass = Fraction(m, 1000)
     frontal = Fraction(frontal_area(w), 10 ** 6)
-    return mass ** 2 * Fraction("9.81") / (Fraction("1.225") * Fraction("0.8") * frontal)
+    return mass ** 2 * GRAVITY / (AIR_DENSITY * DRAG_COEFFICIENT * frontal)
 
 
 def joules_line(energy):

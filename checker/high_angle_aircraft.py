@@ -5,7 +5,6 @@ they have none.
 """
 
 import math
-from fractions import Fraction
 
 import ground_risk as g
 
@@ -64,9 +63,10 @@ AT_LIMITS = (
 CROSSED = ((65_000, 1_000, 1_297), (650_000, 2_840, 5_400), (6_500_000, 10_277, 18_373), (65_000_000, 33_794, 40_000))
 
 
-def lightest(w, joules):
-    """The least mass whose exact energy is at least this, above zero."""
-    square = g.round_up(joules / g.exact_energy(w, 1))
+def lightest(w, joules, parts=1):
+    """The least mass whose exact energy is at least so many joules, or parts of a joule: more than none."""
+    # the energy is 981 × m² / (98 × frontal area)
+    square = -(-98 * g.frontal_area(w) * joules // (981 * parts))
     return math.isqrt(square - 1) + 1
 
 
@@ -81,7 +81,9 @@ def near_a_limit(source):
     """A dimension and a mass by which the low, the exact or the high area crosses a limit."""
     limit, first, last = source.choice(CROSSED)
     w = source.randint(first, last)
-    # of the factor in thousandths, and of the whole numbers about it
-    at = limit / (10 * g.exact_circle(w))
-    at = source.choice((at, g.round_down(at), g.round_up(at)))
-    return w, lightest(w, max(g.ROOT_FROM, 1000 * Fraction(at, 1400) ** 5)) + source.choice((-1, 0, 1))
+    # the factor that makes the limit, in thousandths, or a whole one about it
+    top, bottom = limit * 10 ** 8, 785 * (w + 600) ** 2
+    top, bottom = source.choice(((top, bottom), (top // bottom, 1), (top // bottom + 1, 1)))
+    # its energy: 1,000 J × (factor / 1,400)⁵
+    at_limit = lightest(w, 1_000 * top ** 5, (1_400 * bottom) ** 5)
+    return w, max(at_limit, lightest(w, g.ROOT_FROM)) + source.choice((-1, 0, 1))

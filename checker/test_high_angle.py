@@ -125,12 +125,13 @@ class FrontalAreaTest(unittest.TestCase):
 
 class EnergyTest(unittest.TestCase):
     def test_by_hand(self):
-        # 100 kg × 9.81 / (0.98 × 0.1) for each kg: 10,010.2 J
-        self.assertEqual(g.exact_energy(1_000, 10_000), Fraction(981, Fraction("0.098")))
+        # 10 kg on 0.1 m²: 100 × 9.81 / (0.98 × 0.1), about 10,010.2 J
+        self.assertEqual(g.exact_energy(1_000, 10_000), 981 / Fraction("0.098"))
         self.assertEqual(g.high_angle(1_000, 10_000, 0).joules, (10_010, 10_011))
-        # the least and the most of all: a quarter of a joule, and 250 MJ for each square metre of the smallest
+        # the least of all, a thousandth of a joule, and the most: 625,000,000 × 9.81 / 0.098
+        self.assertEqual(g.exact_energy(40_000, 50), Fraction("0.024525") / Fraction("24.5"))
         self.assertEqual(g.high_angle(40_000, 50, 0).joules, (0, 1))
-        self.assertEqual(g.exact_energy(1_000, 25_000_000), Fraction("6131250") / Fraction("0.000098"))
+        self.assertEqual(g.exact_energy(1_000, 25_000_000), 6_131_250_000 / Fraction("0.098"))
         self.assertEqual(g.high_angle(1_000, 25_000_000, 0).joules, (62_563_775_510, 62_563_775_511))
 
     def test_by_the_guideline(self):
@@ -216,7 +217,7 @@ class AreaTest(unittest.TestCase):
                          (0, 5, 0, 25_000_000, (250_255_102, 250_255_103), (7_000, 7_000), (90_577_382, 90_577_382)))
 
     def test_rounded_outward(self):
-        # for a thousandth 20.096 at 1,000 mm; 10 at 125 of them
+        # 20.096 for a thousandth at 1,000 mm, so whole for each 125 of them
         for low, high, area in ((2_300, 2_300, (46_220, 46_221)), (2_500, 2_500, (50_240, 50_240)), (2_500, 2_501, (50_240, 50_261)),
                                 (2_499, 2_500, (50_219, 50_240)), (2_301, 2_302, (46_240, 46_261))):
             self.assertEqual(g.high_angle_area_line(1_000, g.Line(low, high)), area)
@@ -270,7 +271,7 @@ class AreaTest(unittest.TestCase):
             self.assertEqual(powers, sorted(powers))
 
 
-class AccuracyTest(unittest.TestCase):
+class ExactAreaTest(unittest.TestCase):
     def test_lies_in(self):
         for power, area, lies in ((32, (2, 2), True), (32, (1, 2), True), (32, (2, 3), True), (33, (2, 3), True), (31, (2, 3), False),
                                   (33, (1, 2), False), (Fraction(65, 2), (2, 2), False)):
@@ -292,7 +293,44 @@ class AccuracyTest(unittest.TestCase):
             numerator, denominator = quick_power(w, m)
             self.assertEqual(Fraction(numerator, denominator), g.exact_high_angle_power(w, m, 0), (w, m))
 
-    def test_a_hundred_thousand(self):
+    def test_exact_columns_of_the_definition(self):
+        source = random.Random(SEED + 2)
+        for _ in range(1_000):
+            w, m = near_a_limit(source)
+            numerator, denominator = quick_power(w, m)
+            exact = g.exact_high_angle_column(w, m, 0)
+            self.assertLessEqual(numerator, g.AREA_LIMITS[exact - 1] ** 5 * denominator)
+            if exact > 1:
+                self.assertGreater(numerator, g.AREA_LIMITS[exact - 2] ** 5 * denominator)
+
+    def test_lightest(self):
+        for w, joules, parts in ((1_000, 1, 1), (3_385, 12_000, 1), (3_385, 12_000 * 10 ** 9 + 1, 10 ** 9), (40_000, 3_125_000, 1),
+                                 (2_462, 3_125_000, 1), (8_001, 5 ** 30, 7 ** 20)):
+            m = lightest(w, joules, parts)
+            self.assertLess(g.exact_energy(w, m - 1), Fraction(joules, parts))
+            self.assertGreaterEqual(g.exact_energy(w, m), Fraction(joules, parts))
+
+    def test_the_sharpest_width(self):
+        """One part in 1,151 plus 2 holds for every aircraft, one in 1,152 for all but few."""
+        answer = g.high_angle(34_164, 159_990, 0)
+        self.assertEqual((answer.joules, answer.factor, answer.area), ((11_999, 12_000), (2_300, 2_302), (21_820_111, 21_839_087)))
+        width, high = answer.area.high - answer.area.low, answer.area.high
+        self.assertLessEqual(1_151 * (width - 2), high)
+        self.assertGreater(1_152 * (width - 2), high)
+        # Rounding adds less than 2 to the width, so width less 2 is less than the factors' difference times the area for a
+        # thousandth, and the high area at least the high factor times that. So it is enough that no high factor is less than
+        # 1,151 times the difference, of any joules that are the same or one apart. The factors change only where a fifth power
+        # is passed, and at the joints.
+        passed = {number ** 5 // 5_378_240_000_000 for number in range(2_300, 7_001)} | {11_999, 12_000, 3_125_000}
+        for joules in {number + step for number in passed for step in (-1, 0, 1)}:
+            for line in (g.Line(joules, joules), g.Line(joules, joules + 1)):
+                low, high = g.factor_line(line)
+                self.assertIn(high - low, (0, 1, 2))
+                self.assertGreaterEqual(high, 1_151 * (high - low), line)
+
+
+class HundredThousandTest(unittest.TestCase):
+    def test_accuracy(self):
         flagged, joules, factors = Counter(), Counter(), Counter()
         limits = [limit ** 5 for limit in g.AREA_LIMITS]
         for w, m in of_the_hundred_thousand():
@@ -322,34 +360,6 @@ class AccuracyTest(unittest.TestCase):
             self.assertGreater(joules[number], 500, number)
         self.assertEqual(set(factors), {0, 1, 2})
         self.assertGreater(min(factors.values()), 5_000)
-
-    def test_exact_columns_of_the_definition(self):
-        source = random.Random(SEED + 2)
-        for _ in range(1_000):
-            w, m = near_a_limit(source)
-            numerator, denominator = quick_power(w, m)
-            exact = g.exact_high_angle_column(w, m, 0)
-            self.assertLessEqual(numerator, g.AREA_LIMITS[exact - 1] ** 5 * denominator)
-            if exact > 1:
-                self.assertGreater(numerator, g.AREA_LIMITS[exact - 2] ** 5 * denominator)
-
-    def test_the_sharpest_width(self):
-        """One part in 1,151 plus 2 holds for every aircraft, one in 1,152 for all but few."""
-        answer = g.high_angle(34_164, 159_990, 0)
-        self.assertEqual((answer.joules, answer.factor, answer.area), ((11_999, 12_000), (2_300, 2_302), (21_820_111, 21_839_087)))
-        width, high = answer.area.high - answer.area.low, answer.area.high
-        self.assertLessEqual(1_151 * (width - 2), high)
-        self.assertGreater(1_152 * (width - 2), high)
-        # Rounding adds less than 2 to the width, so width less 2 is less than the factors' difference times the area for a
-        # thousandth, and the high area at least the high factor times that. So it is enough that no high factor is less than
-        # 1,151 times the difference, of any joules that are the same or one apart. The factors change only where a fifth power
-        # is passed, and at the joints.
-        passed = {number ** 5 // 5_378_240_000_000 for number in range(2_300, 7_001)} | {11_999, 12_000, 3_125_000}
-        for joules in {number + step for number in passed for step in (-1, 0, 1)}:
-            for line in (g.Line(joules, joules), g.Line(joules, joules + 1)):
-                low, high = g.factor_line(line)
-                self.assertIn(high - low, (0, 1, 2))
-                self.assertGreaterEqual(high, 1_151 * (high - low), line)
 
 
 class PointsTest(unittest.TestCase):
