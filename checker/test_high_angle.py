@@ -311,7 +311,7 @@ class ExactAreaTest(unittest.TestCase):
             self.assertGreaterEqual(g.exact_energy(w, m), Fraction(joules, parts))
 
     def test_the_sharpest_width(self):
-        """One part in 1,151 plus 2 holds for every aircraft, one in 1,152 for all but few."""
+        """One part in 1,151 plus 2 holds for every aircraft, one in 1,152 doesn't."""
         answer = g.high_angle(34_164, 159_990, 0)
         self.assertEqual((answer.joules, answer.factor, answer.area), ((11_999, 12_000), (2_300, 2_302), (21_820_111, 21_839_087)))
         width, high = answer.area.high - answer.area.low, answer.area.high
