@@ -1,6 +1,7 @@
 """Document 02 item 2: the high impact angle area, its accuracy rule at a hundred thousand aircraft, and the worked points."""
 
 import random
+import re
 import unittest
 from collections import Counter
 from fractions import Fraction
@@ -360,6 +361,19 @@ class PointsTest(unittest.TestCase):
                 self.assertEqual((point.column, point.flag), (columns[1], 0 if columns[0] == columns[1] else 1))
                 self.assertEqual(point.exact_column,
                                  sum(limit ** 5 * denominator < numerator for limit in g.AREA_LIMITS) + 1)
+
+    def test_the_table_as_written(self):
+        """The rows that checker/expectations stores have the points' numbers, in their order."""
+        row = re.compile(r"    (?:∷ )?(accepted|refused) (.*)")
+        rows = [match for match in map(row.fullmatch, high_angle_points.table().decode().splitlines()) if match]
+        points = high_angle_points.points()
+        for match, point in zip(rows, points, strict=True):
+            numbers = tuple(map(int, re.findall(r"\d+", match[2])))
+            if match[1] == "refused":
+                self.assertEqual(numbers, (*point[:3], point.refusal))
+                self.assertEqual(point[4:], (0,) * 10)
+            else:
+                self.assertEqual(numbers, (*point[:3], *point[6:13], point.column, point.flag, point.exact_column))
 
     def test_every_kind(self):
         points = high_angle_points.points()

@@ -17,6 +17,9 @@ points =
     ∷ accepted 7999 100000 7500 2499600 (bracket 40047 40048) (bracket 2928 2929) (bracket 1699560 1700141) 3 0 3
     ∷ accepted 8001 100000 0 2500833 (bracket 40027 40028) (bracket 2928 2929) (bracket 1700351 1700932) 3 0 3
     ∷ accepted 39999 2000000 0 24999375 (bracket 1601672 1601673) (bracket 6124 6125) (bracket 79238366 79251306) 5 0 5
+    -- up to 11,999 J, and from there to 12,000 J
+    ∷ accepted 3000 24481 0 500000 (bracket 11998 11999) (bracket 2300 2300) (bracket 233992 233993) 2 0 2
+    ∷ accepted 3000 24482 0 500000 (bracket 11999 12000) (bracket 2300 2302) (bracket 233992 234197) 2 0 2
     -- exactly 12,000 J, and one gram less and more
     ∷ accepted 3385 28000 0 654000 (bracket 12000 12000) (bracket 2301 2302) (bracket 286842 286967) 2 0 2
     ∷ accepted 3385 27999 0 654000 (bracket 11999 12000) (bracket 2300 2302) (bracket 286717 286967) 2 0 2
