@@ -9,19 +9,19 @@ const FIRST_DIMENSION: u32 = 1_000;
 
 const LAST_DIMENSION: u32 = 40_000;
 
-// Refusals 1 to 3 of the aircraft, then 16, a dimension that has no frontal area; 0 for none.
+// Refusals 1 to 3 of the aircraft, then 16, a dimension that has no frontal area; 0 for none. A dimension that has one is within its
+// range, so that the compiler tests it once.
 pub fn multirotor_refusal(dimension: u32, mass: u32, speed: u32) -> u8
     ensures { λ r. ⌜ r ≡ firstRefusal (multirotorTests dimension mass speed) ⌝ }
 {
-    let refusal = Sheet::range_refusal(dimension, mass, speed);
-    if refusal != 0 {
-        return refusal;
-    }
     if (dimension < FIRST_DIMENSION) | (LAST_DIMENSION < dimension) {
-        16
-    } else {
-        0
+        let refusal = Sheet::range_refusal(dimension, mass, speed);
+        if refusal != 0 {
+            return refusal;
+        }
+        return 16;
     }
+    Sheet::range_refusal(dimension, mass, speed)
 }
 
 // The frontal area in square millimetres, of a dimension in mm. The lines rise by 200, 400, 2,500 / 3 and 625 for each mm; the third
@@ -29,7 +29,7 @@ pub fn multirotor_refusal(dimension: u32, mass: u32, speed: u32) -> u8
 pub fn frontal_area(dimension: u64) -> u64
     ensures { λ r. ⌜ r ≡ frontalArea dimension ⌝ }
 {
-    if dimension <= 1_000 {
+    if dimension < 1_000 {
         return 100_000;
     }
     if dimension <= 3_000 {

@@ -21,7 +21,7 @@ const FACTOR_ABOVE: u64 = 7_000;
 // The factor's fifth power, in thousandths, for each joule.
 const ROOT_SCALE: u64 = 5_378_240_000_000;
 
-// One division for both ends.
+// One division for both ends: it leaves the remainder too.
 pub(crate) fn joules(frontal: u64, mass: u64) -> Bracket
     requires { ⌜ (0 < frontal) × (frontal ≤ 25000000) × (mass ≤ massMax) ⌝ }
     ensures { λ r. ⌜ r ≡ joulesOf frontal mass ⌝ }
@@ -29,7 +29,7 @@ pub(crate) fn joules(frontal: u64, mass: u64) -> Bracket
     let energy = mass * mass * 981;
     let divisor = 98 * frontal;
     let low = energy / divisor;
-    if low * divisor == energy {
+    if energy % divisor == 0 {
         return Bracket { low, high: low };
     }
     Bracket { low, high: low + 1 }

@@ -9,9 +9,6 @@ use Rattle.frontal_area.proofs.frontal_area.Tie as tie
 returns : tie.Need-returns
 returns c = let w = c .before .args .dimension in omega (arith, line-1 w (omega arith))
 
-sub-result : tie.Need-sub-result
-sub-result c = search needs
-
 mul-result : tie.Need-mul-result
 mul-result c = search needs
 
@@ -21,8 +18,8 @@ add-result c = search needs
 returns-2 : tie.Need-returns-2
 returns-2 c = sym (line-1 _ (omega arith))
 
-sub-result-2 : tie.Need-sub-result-2
-sub-result-2 c = search needs
+sub-result : tie.Need-sub-result
+sub-result c = search needs
 
 mul-result-2 : tie.Need-mul-result-2
 mul-result-2 c = search needs
@@ -33,8 +30,8 @@ add-result-2 c = search needs
 returns-3 : tie.Need-returns-3
 returns-3 c = sym (line-2 _ (omega arith) (omega arith))
 
-sub-result-3 : tie.Need-sub-result-3
-sub-result-3 c = search needs
+sub-result-2 : tie.Need-sub-result-2
+sub-result-2 c = search needs
 
 mul-result-3 : tie.Need-mul-result-3
 mul-result-3 c = search needs
@@ -45,8 +42,8 @@ add-result-3 c = search needs
 returns-4 : tie.Need-returns-4
 returns-4 c = sym (line-3 _ (omega arith) (omega arith))
 
-sub-result-4 : tie.Need-sub-result-4
-sub-result-4 c = search needs
+sub-result-3 : tie.Need-sub-result-3
+sub-result-3 c = search needs
 
 mul-result-4 : tie.Need-mul-result-4
 mul-result-4 c = search needs
@@ -65,19 +62,18 @@ frontal-area-spec =
     tie.close
     (tie.spec
     returns
-    sub-result
     mul-result
     add-result
     returns-2
-    sub-result-2
+    sub-result
     mul-result-2
     add-result-2
     returns-3
-    sub-result-3
+    sub-result-2
     mul-result-3
     add-result-3
     returns-4
-    sub-result-4
+    sub-result-3
     mul-result-4
     add-result-4
     returns-5

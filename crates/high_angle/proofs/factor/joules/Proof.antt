@@ -4,7 +4,7 @@ use Prim.Native.Nat.{ℕ, _*_, _≤_}
 use native.Mathlib.Nat.{mul-le-mul, div-le-self}
 use native.Mathlib.Omega.{arith}
 use borrow.Author.Needs.{needs}
-use Rattle.arithmetic.proofs.RoundingLaws.{down-low, up-exact, up-inexact}
+use Rattle.arithmetic.proofs.RoundingLaws.{up-exact, up-inexact}
 use Rattle.columns.specs.Bracket.{bracket}
 use Rattle.sheet.specs.Ranges.{massMax}
 use Rattle.high_angle.specs.HighAngle.{energyNum, energyDen, joulesOf}
@@ -26,9 +26,8 @@ mul-divisor c = search needs
 div-low : tie.Need-div-low
 div-low c = search needs
 
-mul-if1 : tie.Need-mul-if1
-mul-if1 c =
-    omega (arith, energy-fits (c .args .mass) (c .pre .2), down-low (energyNum (c .args .mass)) (energyDen (c .args .frontal)))
+rem-if1 : tie.Need-rem-if1
+rem-if1 c = search needs
 
 returns : tie.Need-returns
 unfolding joulesOf
@@ -46,4 +45,4 @@ returns-2 c = ap (bracket _) (up-inexact _ _ (omega arith) (c .if1 .left))
 pub joules-spec : {M : Type 1} → statement M
 joules-spec =
     tie.close
-    (tie.spec mul-energy mul-energy-2 mul-divisor div-low mul-if1 returns add-t6 returns-2)
+    (tie.spec mul-energy mul-energy-2 mul-divisor div-low rem-if1 returns add-t6 returns-2)
