@@ -1,6 +1,6 @@
 -- Within which numbers the private functions work, so that every product fits 64 bits. Only private functions are stated by it.
 use mathlib.Core.Path.{_≡_}
-use Prim.Native.Nat.{ℕ, _+_, _*_, _^_, _≤_}
+use Prim.Native.Nat.{ℕ, _+_, _*_, _^_, _≤_, _<_}
 use Rattle.columns.specs.declared.Bracket.{Bracket}
 use Rattle.sheet.specs.Lines.{fullWidth}
 use Rattle.frontal_area.specs.FrontalArea.{lastDimension}
@@ -24,12 +24,11 @@ pub record OneApart (joules : Bracket) : Type 0 where
   pub ordered : joules .low ≤ joules .high
   pub apart : joules .high ≤ joules .low + 1
 
--- what `guess` needs of an arc: nothing overflows, and its end is no larger than the largest base
+-- what `on_arc` needs: nothing overflows, and the end of the arc isn't above the largest base, in 2²⁰ths
 pub record ArcFits (arc : Arc) : Type 0 where
-  pub end-most : arc .0 ≤ 7477947272
-  pub end-least : 2 ^ 29 ≤ arc .0
-  pub slope-most : arc .1 ≤ 300000000
-  pub bend-most : arc .2 ≤ 30000000
+  pub end-most : arc .0 + arc .1 < (baseMax + 1) * 2 ^ 20
+  pub rise-most : arc .1 ≤ 2 ^ 29
+  pub bend-most : arc .2 ≤ arc .1
 
 -- a number with its fifth power and the next one's
 pub record Powers (root : Root) : Type 0 where

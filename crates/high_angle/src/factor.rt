@@ -5,6 +5,7 @@ ghost use Rattle.sheet.specs.Ranges.{massMax};
 ghost use Rattle.high_angle.specs.SafetyFactor.{rootFrom, rootTo};
 ghost use Rattle.high_angle.specs.HighAngle.{joulesOf, factorOf};
 ghost use Rattle.high_angle.specs.PrivateBounds.{OneApart};
+use crate::root::guess;
 use crate::root::largest_at_most;
 use crate::root::smallest_at_least;
 use columns::Bracket;
@@ -40,7 +41,8 @@ fn roots(joules: Bracket) -> Bracket
     requires { ⌜ OneApart joules × (rootFrom ≤ joules .low) × (joules .high ≤ rootTo) ⌝ }
     ensures { λ r. ⌜ r ≡ factorOf joules ⌝ }
 {
-    let root = largest_at_most(ROOT_SCALE * joules.low);
+    let start = guess(joules.low as u32);
+    let root = largest_at_most(start, ROOT_SCALE * joules.low);
     let low = root.low;
     let high = smallest_at_least(root, ROOT_SCALE * joules.high);
     Bracket { low, high }

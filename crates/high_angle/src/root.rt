@@ -12,69 +12,69 @@ fn fifth(f: u64) -> u64
     square * square * f
 }
 
-// The fifth root over a quarter of an octave, in 2²⁰ths: that of its upper end, less a parabola of the distance from there.
+// The factor over a quarter of an octave of joules, in 2²⁰ths of a thousandth: what it is at the start, how much it rises from there at
+// that rate, and how much of this the bend takes off by the end.
 struct Arc(u64, u64, u64);
 
-// The arc of a quarter octave: four times the zeros in front of a number of 32 bits, and its three highest digits. They are those of
-// 5,378,240,000,000 × 12,000 to 3,125,000 over 2³²; outside it is any.
+// The parabola through the factor at the three Chebyshev nodes of a quarter octave: four times the zeros in front of the joules in 32 bits,
+// and their first three digits. Those of 12,000 to 3,125,000 J are 44 to 79.
 fn arc_over(quarter: u32) -> Arc
     ensures { λ r. ⌜ ArcFits r ⌝ }
 {
     match quarter {
-        4 => Arc(6_806_962_087, 270_455_027, 26_434_342),
-        5 => Arc(7_059_801_330, 234_273_297, 18_396_551),
-        6 => Arc(7_280_869_465, 207_358_700, 13_608_891),
-        7 => Arc(7_477_947_272, 186_499_272, 10_513_671),
-        8 => Arc(5_925_804_679, 235_444_776, 23_012_431),
-        9 => Arc(6_145_914_024, 203_946_750, 16_015_128),
-        10 => Arc(6_338_365_014, 180_516_233, 11_847_227),
-        11 => Arc(6_509_931_210, 162_357_046, 9_152_682),
-        12 => Arc(5_158_712_602, 204_966_582, 20_033_485),
-        13 => Arc(5_350_328_916, 177_545_958, 13_941_978),
-        14 => Arc(5_517_867_233, 157_148_509, 10_313_610),
-        15 => Arc(5_667_224_282, 141_340_018, 7_967_873),
-        16 => Arc(4_490_920_161, 178_433_774, 17_440_162),
-        17 => Arc(4_657_731_851, 154_562_734, 12_137_197),
-        18 => Arc(4_803_582_428, 136_805_723, 8_978_519),
-        19 => Arc(4_933_605_291, 123_043_632, 6_936_436),
-        20 => Arc(3_909_573_076, 155_335_622, 15_182_543),
-        21 => Arc(4_054_791_087, 134_554_675, 10_566_044),
-        22 => Arc(4_181_761_389, 119_096_299, 7_816_255),
-        23 => Arc(4_294_952_865, 107_115_703, 6_038_518),
-        24 => Arc(3_403_481_044, 135_227_513, 13_217_171),
-        25 => Arc(3_529_900_665, 117_136_648, 9_198_275),
-        26 => Arc(3_640_434_732, 103_679_350, 6_804_445),
-        27 => Arc(3_738_973_636, 93_249_636, 5_256_836),
-        28 => Arc(2_962_902_340, 117_722_388, 11_506_216),
-        29 => Arc(3_072_957_012, 101_973_375, 8_007_564),
-        30 => Arc(3_169_182_507, 90_258_117, 5_923_614),
-        31 => Arc(3_254_965_605, 81_178_523, 4_576_341),
-        32 => Arc(2_579_356_301, 102_483_291, 10_016_742),
-        33 => Arc(2_675_164_458, 88_772_979, 6_970_989),
-        34 => Arc(2_758_933_617, 78_574_254, 5_156_805),
-        35 => Arc(2_833_612_141, 70_670_009, 3_983_936),
-        _ => Arc(2_466_802_645, 61_521_816, 3_468_218),
+        44 => Arc(6_777_381_172, 336_599_624, 27_519_756),
+        45 => Arc(7_086_637_391, 282_196_587, 19_151_927),
+        48 => Arc(5_900_052_997, 293_026_992, 23_957_339),
+        49 => Arc(6_169_276_172, 245_666_398, 16_672_721),
+        50 => Arc(6_398_360_972, 212_595_732, 12_333_683),
+        51 => Arc(6_598_681_807, 188_080_545, 9_528_498),
+        52 => Arc(5_136_294_460, 255_094_813, 20_856_075),
+        53 => Arc(5_370_666_847, 213_865_021, 14_514_447),
+        54 => Arc(5_570_096_749, 185_075_334, 10_737_095),
+        55 => Arc(5_744_486_164, 163_733_624, 8_295_040),
+        56 => Arc(4_471_404_036, 222_072_933, 18_156_268),
+        57 => Arc(4_675_437_049, 186_180_315, 12_635_560),
+        58 => Arc(4_849_050_862, 161_117_436, 9_347_184),
+        59 => Arc(5_000_865_666, 142_538_399, 7_221_251),
+        60 => Arc(3_892_583_302, 193_325_717, 15_805_949),
+        61 => Arc(4_070_204_357, 162_079_378, 10_999_894),
+        62 => Arc(4_221_343_960, 140_260_875, 8_137_196),
+        63 => Arc(4_353_506_422, 124_086_883, 6_286_465),
+        64 => Arc(3_388_690_586, 168_299_812, 13_759_878),
+        65 => Arc(3_543_318_695, 141_098_294, 9_575_964),
+        66 => Arc(3_674_893_362, 122_104_184, 7_083_841),
+        67 => Arc(3_789_947_468, 108_023_906, 5_472_685),
+        68 => Arc(2_950_026_499, 146_513_496, 11_978_669),
+        69 => Arc(3_084_638_086, 122_833_199, 8_336_360),
+        70 => Arc(3_199_180_486, 106_297_866, 6_166_842),
+        71 => Arc(3_299_340_903, 94_040_272, 4_764_249),
+        72 => Arc(2_568_147_230, 127_547_406, 10_428_037),
+        73 => Arc(2_685_333_423, 106_932_511, 7_257_223),
+        74 => Arc(2_785_048_374, 92_537_667, 5_368_548),
+        75 => Arc(2_872_243_082, 81_866_812, 4_147_520),
+        77 => Arc(2_337_718_524, 93_090_157, 6_317_780),
+        78 => Arc(2_424_525_431, 80_558_718, 4_673_592),
+        _ => Arc(2_500_432_833, 71_269_199, 3_610_626),
     }
 }
 
-// The arc so far down from its end, in 2²⁹ths of its length.
-fn on_arc(arc: Arc, down: u64) -> u64
-    requires { ⌜ ArcFits arc × (down < 536870912) ⌝ }
+// So far up on the arc, in 2²⁹ths of its length.
+fn on_arc(arc: Arc, up: u64) -> u64
+    requires { ⌜ ArcFits arc × (up < 536870912) ⌝ }
     ensures { λ r. ⌜ r ≤ baseMax ⌝ }
 {
-    let drop = down * (arc.1 + (down * arc.2 >> 29)) >> 29;
-    (arc.0 - drop) >> 20
+    let rise = up * (arc.1 - (up * arc.2 >> 29)) >> 29;
+    (arc.0 + rise) >> 20
 }
 
-// A guess at the fifth root, of which nothing but its range is proved. In the root's range it is right in 19 of 20 cases, and else one off.
-fn guess(x: u64) -> u64
+// A guess at the factor, of which nothing but its range is proved: right for 97 of 100 joules from 12,000 to 3,125,000, and else one off.
+pub(crate) fn guess(joules: u32) -> u64
     ensures { λ r. ⌜ r ≤ baseMax ⌝ }
 {
-    let high = (x >> 32) as u32 | 1;
-    let zeros = u32::leading_zeros(high) % 32;
-    let shifted = high << zeros;
+    let zeros = u32::leading_zeros(joules) % 32;
+    let shifted = joules << zeros;
     let arc = arc_over(4 * zeros + (shifted >> 29));
-    on_arc(arc, ((4_294_967_295 - shifted) % 536_870_912) as u64)
+    on_arc(arc, (shifted % 536_870_912) as u64)
 }
 
 // A number and its fifth power.
@@ -120,12 +120,11 @@ fn up_to(from: Power, x: u64) -> Root
     Root { low, below, above }
 }
 
-// The largest number whose fifth power is at most x.
-pub(crate) fn largest_at_most(x: u64) -> Root
-    requires { ⌜ x ≤ scaledMax ⌝ }
+// The largest number whose fifth power is at most x, sought from a start.
+pub(crate) fn largest_at_most(start: u64, x: u64) -> Root
+    requires { ⌜ (start ≤ baseMax) × (x ≤ scaledMax) ⌝ }
     ensures { λ r. ⌜ (r .low ≡ largest factorAbove x) × Powers r ⌝ }
 {
-    let start = guess(x);
     let from = at_most(start, x);
     up_to(from, x)
 }

@@ -19,6 +19,12 @@ unfolding factorOf lowFactor highFactor
 between joules a b c d e f =
     ap₂ bracket (e ∙ sym (factor-between (largest factorAbove) (joules .low) a b)) (f ∙ sym (factor-between (smallest factorAbove) (joules .high) c d))
 
+cast-guess : tie.Need-cast-guess
+cast-guess c = search needs
+
+guess-requires : tie.Need-guess-requires
+guess-requires c κs = search needs
+
 mul-largest-at-most : tie.Need-mul-largest-at-most
 mul-largest-at-most c = search needs
 
@@ -32,19 +38,21 @@ smallest-at-least-requires : tie.Need-smallest-at-least-requires
 smallest-at-least-requires c κs =
     let at-root = c .before in
     let root = at-root .largest-at-most in
-    let joules = at-root .before .before .args .joules in
+    let joules = at-root .before .before .before .before .args .joules in
     (root .ensures .1, omega (arith, root .ensures .1 .below, rw (← (root .ensures .0)) at (largest-low (rootScale * joules .low) factorAbove)), omega arith)
 
 returns : tie.Need-returns
 returns c =
     let at-root = c .before .before in
-    let joules = at-root .before .before .args .joules in
+    let joules = at-root .before .before .before .before .args .joules in
     between joules (omega arith) (omega arith) (omega arith) (omega arith) (at-root .largest-at-most .ensures .0) (c .smallest-at-least .ensures)
 
 pub roots-spec : {M : Type 1} → statement M
 roots-spec =
     tie.close
     (tie.spec
+    cast-guess
+    guess-requires
     mul-largest-at-most
     largest-at-most-requires
     mul-smallest-at-least

@@ -1,47 +1,56 @@
 -- `on_arc` stays within 64 bits, and its arc's end is no larger than the largest base.
-use Prim.Native.Nat.{ℕ, _+_, _*_, _/_, _^_, _≤_, _<_}
+use Prim.Native.Nat.{ℕ, _-_, _*_, _/_, _≤_}
 use native.Mathlib.Nat.{mul-le-mul}
 use native.Mathlib.Omega.{arith}
-use borrow.Author.Needs.{needs}
 use Rattle.high_angle.proofs.root.on_arc.Statement.{statement}
 use Rattle.high_angle.proofs.root.on_arc.Tie as tie
 
-module _ (down slope bend : ℕ) (d : down ≤ 536870911) (s : slope ≤ 300000000) (b : bend ≤ 30000000) where
-  bend-fits : down * bend ≤ 536870911 * 30000000
-  bend-fits = mul-le-mul d b
+-- with an arc's rise and bend, so far up
+module _ (up rise bend : ℕ) (u : up ≤ 536870911) (r : rise ≤ 536870912) (b : bend ≤ rise) where
+  bend-fits : up * bend ≤ 536870911 * rise
+  bend-fits = mul-le-mul u b
 
-  drop-fits : down * (slope + down * bend / 536870912) ≤ 536870911 * 330000000
-  drop-fits = mul-le-mul d (inner (down * bend) bend-fits)
+  taken-off : up * bend / 536870912 ≤ rise
+  taken-off = within (up * bend) bend-fits
     where
-      inner : (n : ℕ) → n ≤ 536870911 * 30000000 → slope + n / 536870912 ≤ 330000000
-      inner n h = omega arith
+      within : (n : ℕ) → n ≤ 536870911 * rise → n / 536870912 ≤ rise
+      within n h = omega arith
 
-mul-drop : tie.Need-mul-drop
-mul-drop c =
+  rise-fits : up * (rise - up * bend / 536870912) ≤ 536870911 * rise
+  rise-fits = mul-le-mul u (less (up * bend / 536870912))
+    where
+      less : (n : ℕ) → rise - n ≤ rise
+      less n = omega arith
+
+mul-rise : tie.Need-mul-rise
+mul-rise c =
     let start = c .before in
     let args = start .args in
-    omega (arith, bend-fits (args .down) 0 (args .arc .2) (omega arith) (omega arith) (start .pre .0 .bend-most))
+    omega (arith, bend-fits (args .up) (args .arc .1) (args .arc .2) (omega arith) (start .pre .0 .rise-most) (start .pre .0 .bend-most))
 
-add-drop : tie.Need-add-drop
-add-drop c =
+sub-rise : tie.Need-sub-rise
+sub-rise c =
     let start = c .before .before in
     let args = start .args in
-    omega (arith, bend-fits (args .down) 0 (args .arc .2) (omega arith) (omega arith) (start .pre .0 .bend-most))
+    taken-off (args .up) (args .arc .1) (args .arc .2) (omega arith) (start .pre .0 .rise-most) (start .pre .0 .bend-most)
 
-mul-drop-2 : tie.Need-mul-drop-2
-mul-drop-2 c =
+mul-rise-2 : tie.Need-mul-rise-2
+mul-rise-2 c =
     let start = c .before .before in
     let args = start .args in
-    omega (arith, drop-fits (args .down) (args .arc .1) (args .arc .2) (omega arith) (start .pre .0 .slope-most) (start .pre .0 .bend-most))
+    omega (arith, rise-fits (args .up) (args .arc .1) (args .arc .2) (omega arith) (start .pre .0 .rise-most) (start .pre .0 .bend-most))
 
-sub-result : tie.Need-sub-result
-sub-result c =
+add-result : tie.Need-add-result
+add-result c =
     let start = c .before .before .before in
     let args = start .args in
-    omega (arith, drop-fits (args .down) (args .arc .1) (args .arc .2) (omega arith) (start .pre .0 .slope-most) (start .pre .0 .bend-most))
+    omega (arith, rise-fits (args .up) (args .arc .1) (args .arc .2) (omega arith) (start .pre .0 .rise-most) (start .pre .0 .bend-most))
 
 returns : tie.Need-returns
-returns c = search needs
+returns c =
+    let start = c .before .before .before in
+    let args = start .args in
+    omega (arith, rise-fits (args .up) (args .arc .1) (args .arc .2) (omega arith) (start .pre .0 .rise-most) (start .pre .0 .bend-most))
 
 pub on-arc-spec : {M : Type 1} → statement M
-on-arc-spec = tie.close (tie.spec mul-drop add-drop mul-drop-2 sub-result returns)
+on-arc-spec = tie.close (tie.spec mul-rise sub-rise mul-rise-2 add-result returns)
