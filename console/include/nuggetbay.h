@@ -160,7 +160,7 @@ typedef struct {
     uint8_t flag;          /* 1 where the low area lies within the column before, as on the sheet; else 0 */
     uint64_t frontal_area; /* square millimetres: in straight lines between 100,000 at 1,000 mm, 500,000 at 3,000, 2,500,000 at
                               8,000, 12,500,000 at 20,000 and 25,000,000 at 40,000, rounded down */
-    nb_bracket_t joules;   /* the energy at terminal speed, in air of 1.225 kg per cubic metre with a drag coefficient of 0.8 */
+    nb_bracket_t joules;   /* the energy at terminal speed, joules, in air of 1.225 kg per cubic metre with a drag coefficient of 0.8 */
     nb_bracket_t factor;   /* the safety factor, thousandths: 2,300 below 12,000 J, 7,000 above 3,125,000 J, between them 1,400
                               times the fifth root of the energy in kJ; each by its own joules */
     nb_bracket_t area;     /* the critical area, square centimetres */
