@@ -260,7 +260,7 @@ fn compare() {
 
 fn print_table() {
     println!(
-        "{} texts, {} maps, {} aircraft, all different, shared by the contestants. Lent buffers are lent again without clearing.\n",
+        "{} texts, {} maps, {} aircraft for the sheet and {2} for the high angle, all different, shared by the contestants. Lent buffers are lent again without clearing.\n",
         inputs::TEXTS,
         inputs::MAPS,
         inputs::AIRCRAFT
