@@ -96,8 +96,8 @@ const fn fifth_power(factor: u64) -> u64 {
     factor * factor * factor * factor * factor
 }
 
-/// For each factor, the half joules of its energy: rounded down where that is whole joules, else the odd number in between. So the
-/// half joules of an energy in whole joules compare with it as the fifth powers do.
+/// For each factor, its energy in half joules; where that isn't a whole number of joules, the odd number between the two around it.
+/// So twice an energy in whole joules compares with it as the fifth powers do.
 static HALF_JOULES: [u32; 8_192] = {
     let mut all = [0; 8_192];
     let mut factor = 2_300;
@@ -112,9 +112,10 @@ static HALF_JOULES: [u32; 8_192] = {
 const FRACTION_BITS: u32 = 10;
 const PLACES: usize = 16 << FRACTION_BITS;
 
-/// The place of an energy among the starts: the exponent's last four bits and the fraction's first ten, as f64 has them.
-fn place(joules: u32) -> usize {
-    (f64::from(joules).to_bits() >> (52 - FRACTION_BITS)) as usize % PLACES
+/// The place of an energy among the starts: the exponent's last four bits and the fraction's first ten, as f64 has them. Signed,
+/// since SSE2 converts no other integers in one instruction.
+fn place(joules: i64) -> usize {
+    ((joules as f64).to_bits() >> (52 - FRACTION_BITS)) as usize % PLACES
 }
 
 /// For each place, the low factor of the smallest energy that has it. The largest energy has one that is at most two more.
@@ -141,7 +142,7 @@ static STARTS: [u16; PLACES] = {
 /// The factors of energies from 12,000 to 3,125,000 J.
 fn roots(joules: Bracket) -> Bracket {
     let (low, high) = (2 * joules.low as u32, 2 * joules.high as u32);
-    let start = usize::from(STARTS[place(joules.low as u32)]);
+    let start = usize::from(STARTS[place(joules.low as i64)]);
     let near = &HALF_JOULES[start..start + 4];
     let reached = usize::from(near[1] <= low) + usize::from(near[2] <= low);
     let below = usize::from(near[reached] < high) + usize::from(near[reached + 1] < high);
