@@ -273,7 +273,7 @@ FRONTAL_POINTS = ((1_000, 100_000), (3_000, 500_000), (8_000, 2_500_000),
                   (20_000, 12_500_000), (40_000, 25_000_000))
 # "16 when, after 1 to 3, the dimension is outside 1,000 to 40,000 mm."
 FRONTAL_RANGE = (1_000, 40_000)
-# "1.225 × 0.8 × frontal area": by chapter 5 of 002 the air density and the drag coefficient
+# "1.225 × 0.8 × frontal area": the air density and the drag coefficient of 002
 AIR_DENSITY = Fraction("1.225")
 DRAG_COEFFICIENT = Fraction("0.8")
 # "The factor is 2.3 below 12,000 J and 7 above 3,125,000 J. Between them it is
@@ -397,6 +397,8 @@ def lies_in(power, area):
 
 
 def exact_high_angle_column(w, m, v):
+    # "The exact column is the first whose area limit is at least this fraction",
+    # by the same comparison
     power = exact_high_angle_power(w, m, v)
     return 0 if power is None else first_column(power, 5)
 

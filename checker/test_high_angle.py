@@ -311,7 +311,7 @@ class ExactAreaTest(unittest.TestCase):
             self.assertGreaterEqual(g.exact_energy(w, m), Fraction(joules, parts))
 
     def test_the_sharpest_width(self):
-        """One part in 1,151 plus 2 holds for every aircraft, one in 1,152 for all but few."""
+        """One part in 1,151 plus 2 holds for every aircraft, one in 1,152 doesn't."""
         answer = g.high_angle(34_164, 159_990, 0)
         self.assertEqual((answer.joules, answer.factor, answer.area), ((11_999, 12_000), (2_300, 2_302), (21_820_111, 21_839_087)))
         width, high = answer.area.high - answer.area.low, answer.area.high
@@ -327,39 +327,6 @@ class ExactAreaTest(unittest.TestCase):
                 low, high = g.factor_line(line)
                 self.assertIn(high - low, (0, 1, 2))
                 self.assertGreaterEqual(high, 1_151 * (high - low), line)
-
-
-class HundredThousandTest(unittest.TestCase):
-    def test_accuracy(self):
-        flagged, joules, factors = Counter(), Counter(), Counter()
-        limits = [limit ** 5 for limit in g.AREA_LIMITS]
-        for w, m in of_the_hundred_thousand():
-            answer = g.high_angle(w, m, 0)
-            low, high = answer.area
-            numerator, denominator = quick_power(w, m)
-            if answer.refusal != 0:
-                self.fail(f"refused at {w, m}")
-            if not low ** 5 * denominator <= numerator <= high ** 5 * denominator:
-                self.fail(f"exact area outside low and high at {w, m}")
-            if 500 * (high - low) > high + 1_000:
-                self.fail(f"low and high too far apart at {w, m}")
-            column = answer.column
-            if column not in (1, 2, 3, 4, 5) or numerator > limits[column - 1] * denominator:
-                self.fail(f"exact column above the answer's at {w, m}")
-            exact = column - 1 if column > 1 and numerator <= limits[column - 2] * denominator else column
-            if exact > 1 and numerator <= limits[exact - 2] * denominator or answer.flag == 0 and exact != column:
-                self.fail(f"unflagged with another exact column, or two columns off, at {w, m}")
-            if answer.flag == 1:
-                flagged[column, exact] += 1
-            joules[answer.joules.low] += 1
-            factors[answer.factor.high - answer.factor.low] += 1
-        # The hundred thousand have all that they are meant to have.
-        for column, exact in product((2, 3, 4, 5), (0, 1)):
-            self.assertGreater(flagged[column, column - exact], 1_000)
-        for number in (11_998, 11_999, 12_000, 12_001, 3_124_999, 3_125_000):
-            self.assertGreater(joules[number], 500, number)
-        self.assertEqual(set(factors), {0, 1, 2})
-        self.assertGreater(min(factors.values()), 5_000)
 
 
 class PointsTest(unittest.TestCase):
@@ -400,6 +367,41 @@ class PointsTest(unittest.TestCase):
         self.assertEqual({point.column - point.exact_column for point in accepted if point.flag == 1}, {0, 1})
         self.assertEqual({point.column for point in accepted}, {1, 2, 3, 4, 5})
         self.assertEqual(max(point.area_high for point in accepted), 90_577_382)
+
+
+class RuleTest(unittest.TestCase):
+    """The accuracy rule at a hundred thousand aircraft; by its name it comes after the quick tests."""
+
+    def test_accuracy(self):
+        flagged, joules, factors = Counter(), Counter(), Counter()
+        limits = [limit ** 5 for limit in g.AREA_LIMITS]
+        for w, m in of_the_hundred_thousand():
+            answer = g.high_angle(w, m, 0)
+            low, high = answer.area
+            numerator, denominator = quick_power(w, m)
+            if answer.refusal != 0:
+                self.fail(f"refused at {w, m}")
+            if not low ** 5 * denominator <= numerator <= high ** 5 * denominator:
+                self.fail(f"exact area outside low and high at {w, m}")
+            if 500 * (high - low) > high + 1_000:
+                self.fail(f"low and high too far apart at {w, m}")
+            column = answer.column
+            if column not in (1, 2, 3, 4, 5) or numerator > limits[column - 1] * denominator:
+                self.fail(f"exact column above the answer's at {w, m}")
+            exact = column - 1 if column > 1 and numerator <= limits[column - 2] * denominator else column
+            if exact > 1 and numerator <= limits[exact - 2] * denominator or answer.flag == 0 and exact != column:
+                self.fail(f"unflagged with another exact column, or two columns off, at {w, m}")
+            if answer.flag == 1:
+                flagged[column, exact] += 1
+            joules[answer.joules.low] += 1
+            factors[answer.factor.high - answer.factor.low] += 1
+        # The hundred thousand have all that they are meant to have.
+        for column, exact in product((2, 3, 4, 5), (0, 1)):
+            self.assertGreater(flagged[column, column - exact], 1_000)
+        for number in (11_998, 11_999, 12_000, 12_001, 3_124_999, 3_125_000):
+            self.assertGreater(joules[number], 500, number)
+        self.assertEqual(set(factors), {0, 1, 2})
+        self.assertGreater(min(factors.values()), 5_000)
 
 
 if __name__ == "__main__":
