@@ -1,6 +1,7 @@
 """Worked points of the high impact angle area, with the exact column, for the definitions in crates/.
 
-checker/test_high_angle.py works each out another way.
+checker/test_high_angle.py works each out another way; checker/expectations
+writes them to crates/exact_high_angle/specs/PointTable.antt.
 """
 
 from typing import NamedTuple
@@ -15,6 +16,8 @@ AIRCRAFT = (
         (40_000, 25_000_000, 0))),
     ("on each line between them; the third alone is rounded", (
         (1_001, 50, 1), (7_999, 100_000, 7_500), (8_001, 100_000, 0), (39_999, 2_000_000, 0))),
+    ("up to 11,999 J, and from there to 12,000 J", (
+        (3_000, 24_481, 0), (3_000, 24_482, 0))),
     ("exactly 12,000 J, and one gram less and more", (
         (3_385, 28_000, 0), (3_385, 27_999, 0), (3_385, 28_001, 0))),
     ("between 11,999 and 12,000 J, the factor from 2.3 to above the root", (
@@ -27,6 +30,18 @@ AIRCRAFT = (
         (49, 49, 40_001), (100_001, 50, 0), (999, 49, 40_001), (40_001, 25_000_001, 0), (999, 50, 40_001), (999, 50, 40_000),
         (40_001, 25_000_000, 0))),
 )
+
+
+HEAD = """\
+-- The worked points. checker/expectations writes this file, from document 02, item 2; it is never edited by hand.
+use mathlib.Core.List.{List, [], _∷_}
+use Rattle.columns.specs.Bracket.{bracket}
+use Rattle.exact_high_angle.specs.HighAnglePoint.{HighAnglePoint, accepted, refused}
+
+-- dimension, mass, speed; frontal area, joules, factor and area; column, flag and exact column. Or dimension, mass, speed and the refusal.
+abbrev pub points : List HighAnglePoint
+points =
+"""
 
 
 class Point(NamedTuple):
@@ -57,3 +72,25 @@ def groups():
 
 def points():
     return [point for _, found in groups() for point in found]
+
+
+def written(p):
+    """A point as the table has it."""
+    aircraft = f"{p.dimension} {p.mass} {p.speed}"
+    if p.refusal != 0:
+        return f"refused {aircraft} {p.refusal}"
+    return (f"accepted {aircraft} {p.frontal_area} (bracket {p.joules_low} {p.joules_high}) "
+            f"(bracket {p.factor_low} {p.factor_high}) (bracket {p.area_low} {p.area_high}) {p.column} {p.flag} {p.exact_column}")
+
+
+def table():
+    """The bytes of crates/exact_high_angle/specs/PointTable.antt."""
+    lines = []
+    before = "    "
+    for why, found in groups():
+        lines.append(f"    -- {why}")
+        for point in found:
+            lines.append(before + written(point))
+            before = "    ∷ "
+    lines.append("    ∷ []")
+    return (HEAD + "\n".join(lines) + "\n").encode()

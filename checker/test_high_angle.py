@@ -1,6 +1,7 @@
 """Document 02 item 2: the high impact angle area, its accuracy rule at a hundred thousand aircraft, and the worked points."""
 
 import random
+import re
 import unittest
 from collections import Counter
 from fractions import Fraction
@@ -212,6 +213,15 @@ class AreaTest(unittest.TestCase):
         self.assertEqual(g.high_angle(1_000, 10_000, 0), (0, 1, 0, 100_000, (10_010, 10_011), (2_300, 2_300), (46_220, 46_221)))
         # D is 1.8: 10.1736 for each 1; 311,515.632 and 311,617.368
         self.assertEqual(g.high_angle(3_000, 50_000, 0), (0, 2, 0, 500_000, (50_051, 50_052), (3_062, 3_063), (311_515, 311_618)))
+        # D is 4.3: 58.0586 for each 1; 613,125 / 2.45 J; 2,452,395.264 and 2,452,975.85
+        self.assertEqual(g.high_angle(8_000, 250_000, 0),
+                         (0, 3, 0, 2_500_000, (250_255, 250_256), (4_224, 4_225), (2_452_395, 2_452_976)))
+        # D is 4.3005: 58.072102785 for each 1; 98,100 / 2.45081634 J; 1,700,351.1695.. and 1,700,931.8905..
+        self.assertEqual(g.high_angle(8_001, 100_000, 0),
+                         (0, 3, 0, 2_500_833, (40_027, 40_028), (2_928, 2_929), (1_700_351, 1_700_932)))
+        # D is 10.3: 333.1226 for each 1; 9,810,000 / 12.25 J; 17,758,765.806 and 17,762,097.032
+        self.assertEqual(g.high_angle(20_000, 1_000_000, 0),
+                         (0, 4, 0, 12_500_000, (800_816, 800_817), (5_331, 5_332), (17_758_765, 17_762_098)))
         # D is 20.3, the largest
         self.assertEqual(g.high_angle(40_000, 25_000_000, 0),
                          (0, 5, 0, 25_000_000, (250_255_102, 250_255_103), (7_000, 7_000), (90_577_382, 90_577_382)))
@@ -351,6 +361,19 @@ class PointsTest(unittest.TestCase):
                 self.assertEqual((point.column, point.flag), (columns[1], 0 if columns[0] == columns[1] else 1))
                 self.assertEqual(point.exact_column,
                                  sum(limit ** 5 * denominator < numerator for limit in g.AREA_LIMITS) + 1)
+
+    def test_the_table_as_written(self):
+        """The rows that checker/expectations stores have the points' numbers, in their order."""
+        row = re.compile(r"    (?:∷ )?(accepted|refused) (.*)")
+        rows = [match for match in map(row.fullmatch, high_angle_points.table().decode().splitlines()) if match]
+        points = high_angle_points.points()
+        for match, point in zip(rows, points, strict=True):
+            numbers = tuple(map(int, re.findall(r"\d+", match[2])))
+            if match[1] == "refused":
+                self.assertEqual(numbers, (*point[:3], point.refusal))
+                self.assertEqual(point[4:], (0,) * 10)
+            else:
+                self.assertEqual(numbers, (*point[:3], *point[6:13], point.column, point.flag, point.exact_column))
 
     def test_every_kind(self):
         points = high_angle_points.points()
