@@ -144,9 +144,9 @@ fn roots(joules: Bracket) -> Bracket {
     let (low, high) = (2 * joules.low as u32, 2 * joules.high as u32);
     let start = usize::from(STARTS[place(joules.low as i64)]);
     let near = &HALF_JOULES[start..start + 4];
-    let reached = usize::from(near[1] <= low) + usize::from(near[2] <= low);
-    let below = usize::from(near[reached] < high) + usize::from(near[reached + 1] < high);
-    Bracket { low: (start + reached) as u64, high: (start + reached + below) as u64 }
+    let reached = start + usize::from(near[1] <= low) + usize::from(near[2] <= low);
+    let below = usize::from(HALF_JOULES[reached] < high) + usize::from(HALF_JOULES[reached + 1] < high);
+    Bracket { low: reached as u64, high: (reached + below) as u64 }
 }
 
 #[inline(never)]
@@ -160,7 +160,8 @@ pub fn high_angle(dimension: u32, mass: u32, speed: u32) -> HighAngle {
     let energy = u64::from(mass) * u64::from(mass) * 981;
     let by = 98 * frontal_area;
     let low = energy / by;
-    let joules = Bracket { low, high: low + u64::from(low * by != energy) };
+    // the division leaves the rest too
+    let joules = Bracket { low, high: low + u64::from(energy % by != 0) };
     // one comparison where both are roots; the low energy alone may be below the first limit, and then the high one is 12,000 J
     let factor = if (12_000..3_125_000).contains(&joules.low) {
         roots(joules)
