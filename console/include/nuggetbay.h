@@ -46,6 +46,7 @@ uint32_t nb_version(void);
  * statically, or runs with LD_BIND_NOW=1. Elsewhere the first call binds a name, which took some 3,100 bytes more where it was
  * tried. */
 #define NB_SHEET_STACK 64u
+#define NB_HIGH_ANGLE_STACK 40u
 #define NB_FOOTPRINT_STACK 448u
 #define NB_INTRINSIC_CLASS_STACK 136u
 #define NB_FINAL_CLASS_STACK 176u
