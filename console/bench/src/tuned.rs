@@ -1,7 +1,7 @@
 //! The operations tuned by hand for the same target (x86-64 with SSE2, safe Rust, no intrinsics): no early exit where bytes or
-//! cells are walked, lanes of digits, cells chosen by masks, one division where two quotients differ by one.
+//! cells are walked, lanes of digits, cells chosen by masks, one division where two quotients differ by one, roots from tables.
 
-use crate::ffi::{Bracket, CaseHead, Footprint, FrameFields, Reading, Sheet, SheetAnswer};
+use crate::ffi::{Bracket, CaseHead, Footprint, FrameFields, HighAngle, Reading, Sheet, SheetAnswer};
 use nuggetbay::layout::{frame_place, line_1_place, COUNTS, COUNT_LINE, LINE_1_LENGTH, MARKS, MARK_LINE};
 use nuggetbay::layout::{FRAME_LENGTH, MAP_CELLS, MAP_COLUMNS, MAP_ROWS, REFUSAL_LENGTH, TEXT_LENGTH};
 use std::ops::Range;
@@ -60,6 +60,136 @@ pub fn sheet(dimension: u32, mass: u32, speed: u32) -> SheetAnswer {
     let glide = Bracket { low: 2_570_666, high: 2_570_667 };
     let (column, flag) = (before as u8 + 1, u8::from(flag));
     SheetAnswer { refusal: 0, sheet: Sheet { glide, run, saving, slide, total, area, column, flag, size_column } }
+}
+
+fn range_refusal(dimension: u32, mass: u32, speed: u32) -> u8 {
+    if dimension.wrapping_sub(50) > 99_950 {
+        1
+    } else if mass.wrapping_sub(50) > 24_999_950 {
+        2
+    } else if speed > 40_000 {
+        3
+    } else {
+        16
+    }
+}
+
+/// Branches, and no conditional moves: the dimension is known early, and a right guess starts the division sooner.
+fn frontal_area(dimension: u64) -> u64 {
+    if dimension <= 8_000 {
+        if dimension <= 3_000 {
+            200 * dimension - 100_000
+        } else {
+            400 * dimension - 700_000
+        }
+    } else if dimension <= 20_000 {
+        2_500 * (dimension - 8_000) / 3 + 2_500_000
+    } else {
+        625 * dimension
+    }
+}
+
+/// The fifth power, in thousandths, of the factor of one joule.
+const JOULE: u64 = 5_378_240_000_000;
+
+const fn fifth_power(factor: u64) -> u64 {
+    factor * factor * factor * factor * factor
+}
+
+/// For each factor, its energy in half joules; where that isn't a whole number of joules, the odd number between the two around it.
+/// So twice an energy in whole joules compares with it as the fifth powers do.
+static HALF_JOULES: [u32; 8_192] = {
+    let mut all = [0; 8_192];
+    let mut factor = 2_300;
+    while factor < 7_003 {
+        let power = fifth_power(factor as u64);
+        all[factor] = 2 * (power / JOULE) as u32 + (power % JOULE != 0) as u32;
+        factor += 1;
+    }
+    all
+};
+
+const FRACTION_BITS: u32 = 10;
+const PLACES: usize = 16 << FRACTION_BITS;
+
+/// The place of an energy among the starts: the exponent's last four bits and the fraction's first ten, as f64 has them. Signed,
+/// since SSE2 converts no other integers in one instruction.
+fn place(joules: i64) -> usize {
+    ((joules as f64).to_bits() >> (52 - FRACTION_BITS)) as usize % PLACES
+}
+
+/// For each place, the low factor of the smallest energy that has it. The largest energy has one that is at most two more.
+static STARTS: [u16; PLACES] = {
+    let mut starts = [2_300; PLACES];
+    let mut factor = 2_300;
+    let mut exponent = 13;
+    while exponent < 22 {
+        let mut fraction = 0;
+        while fraction < 1 << FRACTION_BITS {
+            let joules = ((1 << FRACTION_BITS) + fraction) << (exponent - FRACTION_BITS);
+            while factor < 7_000 && fifth_power(factor + 1) <= JOULE * joules {
+                factor += 1;
+            }
+            let place = ((1_023 + exponent as usize) << FRACTION_BITS) + fraction as usize;
+            starts[place % PLACES] = factor as u16;
+            fraction += 1;
+        }
+        exponent += 1;
+    }
+    starts
+};
+
+/// The factors of energies from 12,000 to 3,125,000 J.
+fn roots(joules: Bracket) -> Bracket {
+    let (low, high) = (2 * joules.low as u32, 2 * joules.high as u32);
+    let start = usize::from(STARTS[place(joules.low as i64)]);
+    let near = &HALF_JOULES[start..start + 4];
+    let reached = start + usize::from(near[1] <= low) + usize::from(near[2] <= low);
+    let below = usize::from(HALF_JOULES[reached] < high) + usize::from(HALF_JOULES[reached + 1] < high);
+    Bracket { low: reached as u64, high: (reached + below) as u64 }
+}
+
+#[inline(never)]
+pub fn high_angle(dimension: u32, mass: u32, speed: u32) -> HighAngle {
+    let accepted =
+        (dimension.wrapping_sub(1_000) <= 39_000) & (mass.wrapping_sub(50) <= 24_999_950) & (speed <= 40_000);
+    if !accepted {
+        return HighAngle { refusal: range_refusal(dimension, mass, speed), ..Default::default() };
+    }
+    let frontal_area = frontal_area(u64::from(dimension));
+    let energy = u64::from(mass) * u64::from(mass) * 981;
+    let by = 98 * frontal_area;
+    let low = energy / by;
+    // the division leaves the rest too
+    let joules = Bracket { low, high: low + u64::from(energy % by != 0) };
+    // one comparison where both are roots; the low energy alone may be below the first limit, and then the high one is 12,000 J
+    let factor = if (12_000..3_125_000).contains(&joules.low) {
+        roots(joules)
+    } else if joules.low >= 3_125_000 {
+        Bracket { low: 7_000, high: 7_000 }
+    } else {
+        Bracket { low: 2_300, high: if joules.high < 12_000 { 2_300 } else { 2_302 } }
+    };
+    let a = u64::from(dimension) + 600;
+    let square = 157 * a * a;
+    let area =
+        Bracket { low: factor.low * square / 20_000_000, high: (factor.high * square + 19_999_999) / 20_000_000 };
+    // the column, and the limit before it and one
+    let (column, flagged_below) = if area.high <= LIMITS[2] {
+        if area.high <= LIMITS[0] {
+            (1, 0)
+        } else if area.high <= LIMITS[1] {
+            (2, LIMITS[0] + 1)
+        } else {
+            (3, LIMITS[1] + 1)
+        }
+    } else if area.high <= LIMITS[3] {
+        (4, LIMITS[2] + 1)
+    } else {
+        (5, LIMITS[3] + 1)
+    };
+    let flag = u8::from(area.low < flagged_below);
+    HighAngle { refusal: 0, column, flag, frontal_area, joules, factor, area }
 }
 
 fn table_row(people: u32, cell_area: u32) -> u8 {

@@ -1,14 +1,24 @@
-//! The example ends with the status that it promises, also where its words can't be written.
+//! The examples end with the status that they promise, also where their words can't be written.
 
 use std::fs::File;
 use std::path::PathBuf;
 use std::process::{Command, Output, Stdio};
 
-/// The example. `cargo test` builds it beside this test; with `--test` it has to be there already.
-fn example() -> Command {
+/// An example. `cargo test` builds it beside this test; with `--test` it has to be there already.
+fn example_called(name: &str) -> Command {
     let test = std::env::current_exe().expect("a test knows its file");
     let built = test.parent().and_then(|deps| deps.parent()).expect("it stands in the folder deps");
-    Command::new(built.join("examples/case"))
+    Command::new(built.join("examples").join(name))
+}
+
+fn example() -> Command {
+    example_called("case")
+}
+
+fn high_angle(arguments: &[&str]) -> Command {
+    let mut command = example_called("high_angle");
+    command.args(arguments);
+    command
 }
 
 fn stored(name: &str) -> PathBuf {
@@ -35,6 +45,30 @@ fn no_file_ends_with_2() {
     assert!(said.starts_with("can't read "), "{said}");
 }
 
+#[test]
+fn aircraft_end_with_0_or_1() {
+    assert_eq!(ended(&mut high_angle(&["1100", "15000", "2500"])), (Some(0), String::new()));
+    for refused in [["999", "15000", "2500"], ["1100", "49", "2500"], ["4294967295", "15000", "0"]] {
+        assert_eq!(ended(&mut high_angle(&refused)), (Some(1), String::new()));
+    }
+}
+
+#[test]
+fn no_aircraft_ends_with_2() {
+    let usage = "usage: high_angle DIMENSION MASS SPEED, in mm, g and cm/s\n".to_string();
+    for arguments in [&[][..], &["1100", "15000"], &["1100", "15000", "2500", "2500"]] {
+        assert_eq!(ended(&mut high_angle(arguments)), (Some(2), usage.clone()));
+    }
+    for wrong in ["", "x", "-1", "+1", " 1", "1.0", "1e3", "0x10", "1_000", "4294967296", "18446744073709551617"] {
+        for place in 0..3 {
+            let mut arguments = ["1100", "15000", "2500"];
+            arguments[place] = wrong;
+            let said = format!("not a number of 32 bits: '{wrong}'\n");
+            assert_eq!(ended(&mut high_angle(&arguments)), (Some(2), said));
+        }
+    }
+}
+
 /// A pipe that nobody reads any more.
 fn closed_pipe() -> Stdio {
     let mut reader = Command::new("true").stdin(Stdio::piped()).spawn().expect("there is a program true");
@@ -55,6 +89,13 @@ fn words_that_cannot_be_written_end_with_2() {
             assert_eq!((status, said.lines().count()), (Some(2), 1), "{said}");
             assert!(said.starts_with("can't write: "), "{said}");
             assert_eq!(ended(example().arg(stored(case)).stdout(output()).stderr(output())), (Some(2), String::new()));
+        }
+        for dimension in ["1100", "999"] {
+            let aircraft = [dimension, "15000", "2500"];
+            let (status, said) = ended(high_angle(&aircraft).stdout(output()));
+            assert_eq!((status, said.lines().count()), (Some(2), 1), "{said}");
+            assert!(said.starts_with("can't write: "), "{said}");
+            assert_eq!(ended(high_angle(&aircraft).stdout(output()).stderr(output())), (Some(2), String::new()));
         }
     }
 }
