@@ -75,7 +75,7 @@ fn high_angle_refusal(dimension: u32, mass: u32, speed: u32) -> u8 {
     }
 }
 
-/// Branches, and no conditional moves: the dimension is known early, and a right guess starts the division sooner.
+/// By branches: with conditional moves in their place the whole answer took longer.
 fn frontal_area(dimension: u64) -> u64 {
     if dimension <= 8_000 {
         if dimension <= 3_000 {
