@@ -62,7 +62,8 @@ pub fn sheet(dimension: u32, mass: u32, speed: u32) -> SheetAnswer {
     SheetAnswer { refusal: 0, sheet: Sheet { glide, run, saving, slide, total, area, column, flag, size_column } }
 }
 
-fn range_refusal(dimension: u32, mass: u32, speed: u32) -> u8 {
+/// The refusal of an aircraft that isn't accepted.
+fn high_angle_refusal(dimension: u32, mass: u32, speed: u32) -> u8 {
     if dimension.wrapping_sub(50) > 99_950 {
         1
     } else if mass.wrapping_sub(50) > 24_999_950 {
@@ -74,7 +75,7 @@ fn range_refusal(dimension: u32, mass: u32, speed: u32) -> u8 {
     }
 }
 
-/// Branches, and no conditional moves: the dimension is known early, and a right guess starts the division sooner.
+/// By branches: with conditional moves in their place the whole answer took longer.
 fn frontal_area(dimension: u64) -> u64 {
     if dimension <= 8_000 {
         if dimension <= 3_000 {
@@ -154,7 +155,7 @@ pub fn high_angle(dimension: u32, mass: u32, speed: u32) -> HighAngle {
     let accepted =
         (dimension.wrapping_sub(1_000) <= 39_000) & (mass.wrapping_sub(50) <= 24_999_950) & (speed <= 40_000);
     if !accepted {
-        return HighAngle { refusal: range_refusal(dimension, mass, speed), ..Default::default() };
+        return HighAngle { refusal: high_angle_refusal(dimension, mass, speed), ..Default::default() };
     }
     let frontal_area = frontal_area(u64::from(dimension));
     let energy = u64::from(mass) * u64::from(mass) * 981;
