@@ -24,9 +24,9 @@ pub record OneApart (joules : Bracket) : Type 0 where
   pub ordered : joules .low ≤ joules .high
   pub apart : joules .high ≤ joules .low + 1
 
--- what `on_arc` needs: nothing overflows, and the end of the arc isn't above the largest base, in 2²⁰ths
+-- what `on_arc` needs: nothing overflows, and the arc's start and rise aren't above the largest base, in 2⁴⁹ths
 pub record ArcFits (arc : Arc) : Type 0 where
-  pub end-most : arc .0 + arc .1 < (baseMax + 1) * 2 ^ 20
+  pub end-most : arc .0 + 2 ^ 29 * arc .1 < (baseMax + 1) * 2 ^ 49
   pub rise-most : arc .1 ≤ 2 ^ 29
   pub bend-most : arc .2 ≤ arc .1
 

@@ -22,20 +22,20 @@ module _ (up rise bend : ℕ) (u : up ≤ 536870911) (r : rise ≤ 536870912) (b
       less : (n : ℕ) → rise - n ≤ rise
       less n = omega arith
 
-mul-rise : tie.Need-mul-rise
-mul-rise c =
+mul-result : tie.Need-mul-result
+mul-result c =
     let start = c .before in
     let args = start .args in
     omega (arith, bend-fits (args .up) (args .arc .1) (args .arc .2) (omega arith) (start .pre .0 .rise-most) (start .pre .0 .bend-most))
 
-sub-rise : tie.Need-sub-rise
-sub-rise c =
+sub-result : tie.Need-sub-result
+sub-result c =
     let start = c .before .before in
     let args = start .args in
     taken-off (args .up) (args .arc .1) (args .arc .2) (omega arith) (start .pre .0 .rise-most) (start .pre .0 .bend-most)
 
-mul-rise-2 : tie.Need-mul-rise-2
-mul-rise-2 c =
+mul-result-2 : tie.Need-mul-result-2
+mul-result-2 c =
     let start = c .before .before in
     let args = start .args in
     omega (arith, rise-fits (args .up) (args .arc .1) (args .arc .2) (omega arith) (start .pre .0 .rise-most) (start .pre .0 .bend-most))
@@ -53,4 +53,4 @@ returns c =
     omega (arith, rise-fits (args .up) (args .arc .1) (args .arc .2) (omega arith) (start .pre .0 .rise-most) (start .pre .0 .bend-most))
 
 pub on-arc-spec : {M : Type 1} → statement M
-on-arc-spec = tie.close (tie.spec mul-rise sub-rise mul-rise-2 add-result returns)
+on-arc-spec = tie.close (tie.spec mul-result sub-result mul-result-2 add-result returns)
