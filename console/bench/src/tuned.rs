@@ -93,49 +93,46 @@ fn frontal_area(dimension: u64) -> u64 {
 /// The fifth power, in thousandths, of the factor of one joule.
 const JOULE: u64 = 5_378_240_000_000;
 
-const FRACTION_BITS: u32 = 6;
-const PLACES: usize = 16 << FRACTION_BITS;
-
-/// The factor of an energy, in 4,096ths of a thousandth.
-const fn fine_factor(joules: u64) -> u32 {
-    let power = (JOULE as u128 * joules as u128) << 60;
-    let (mut low, mut high) = (0u128, 7_200 << 12);
+/// The factor of an energy, in 2^20ths of a thousandth, by bisection.
+const fn fine_factor(joules: u64) -> u64 {
+    let power = JOULE as u128 * joules as u128;
+    let (mut low, mut high) = (0u128, 7_200 << 20);
     while low + 1 < high {
         let middle = (low + high) / 2;
-        if middle * middle * middle * middle * middle <= power {
+        // in two steps, so that no product passes 128 bits
+        let square = middle * middle >> 20;
+        if (square * square >> 20) * middle >> 40 < power {
             low = middle;
         } else {
             high = middle;
         }
     }
-    low as u32
+    low as u64
 }
 
-/// Straight lines over a sixty-fourth of an octave of energies: the factor at the start, and how much it grows to the end. Their places
-/// are the exponent's last four bits and the fraction's first six, as f64 has them. 8 KB, 4.6 of them used.
-static LINES: [(u32, u32); PLACES] = {
-    let mut lines = [(0, 0); PLACES];
-    let mut exponent = 13;
-    while exponent < 22 {
-        let mut fraction = 0;
-        while fraction < 1 << FRACTION_BITS {
-            let start = ((1 << FRACTION_BITS) + fraction) << (exponent - FRACTION_BITS);
-            let factor = fine_factor(start);
-            let place = ((1_023 + exponent as usize) << FRACTION_BITS) + fraction as usize;
-            lines[place % PLACES] = (factor, fine_factor(start + (1 << (exponent - FRACTION_BITS))) - factor);
-            fraction += 1;
-        }
-        exponent += 1;
+/// A parabola over each quarter of an octave of energies, through its start, middle and end: the factor at the start, the rise at the
+/// start's rate, and the bend that is taken off by the end. The place is four times the leading zeros and the first three digits.
+static PARABOLAS: [(u64, u64, u64); 64] = {
+    let mut parabolas = [(0, 0, 0); 64];
+    let mut place = 44;
+    while place < 80 {
+        // the three digits are 4 to 7, so that the zeros are one less than a fourth of the place
+        let eighth = 1 << (29 - place / 4);
+        let start = (place % 4 + 4) * 2 * eighth;
+        let (first, middle, last) =
+            (fine_factor(start), fine_factor(start + eighth), fine_factor(start + 2 * eighth));
+        parabolas[place as usize % 64] = (first << 29, 4 * middle - 3 * first - last, 2 * (2 * middle - first - last));
+        place += 1;
     }
-    lines
+    parabolas
 };
 
-/// Signed, since SSE2 converts no other integers in one instruction.
-fn guess(joules: i64) -> u64 {
-    let bits = (joules as f64).to_bits();
-    let (start, growth) = LINES[(bits >> (52 - FRACTION_BITS)) as usize % PLACES];
-    let along = (bits >> (32 - FRACTION_BITS)) % (1 << 20);
-    (u64::from(start) + (u64::from(growth) * along >> 20)) >> 12
+fn guess(joules: u32) -> u64 {
+    let zeros = joules.leading_zeros();
+    let shifted = joules << (zeros % 32);
+    let (first, rise, bend) = PARABOLAS[(4 * zeros + (shifted >> 29)) as usize % 64];
+    let along = u64::from(shifted % (1 << 29));
+    (first + along * (rise - (along * bend >> 29))) >> 49
 }
 
 fn fifth_power(factor: u64) -> u64 {
@@ -146,7 +143,7 @@ fn fifth_power(factor: u64) -> u64 {
 /// The factors of energies from 12,000 to 3,125,000 J. The guess is nearly always right, so that the loops' branches are foreseen.
 fn roots(joules: Bracket) -> Bracket {
     let (power, high_power) = (JOULE * joules.low, JOULE * joules.high);
-    let mut low = guess(joules.low as i64);
+    let mut low = guess(joules.low as u32);
     let mut below = fifth_power(low);
     while power < below {
         low -= 1;
