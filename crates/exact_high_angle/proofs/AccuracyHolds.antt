@@ -15,15 +15,15 @@ use Rattle.high_angle.specs.SafetyFactor.{largest, smallest, lowFactor, highFac
 use Rattle.high_angle.specs.HighAngle.{joulesOf, factorOf, areaOf, acceptedWith, acceptedHighAngle, highAngleOf}
 use Rattle.high_angle.specs.Promises.{AcceptedRanges}
 use Rattle.high_angle.proofs.PromisesHold.{high-angle-promise, high-angle-laws}
-use Rattle.exact_high_angle.specs.ExactHighAngle.{exactFactor, circle, fifthPower, areaSide, numberSide, atMost, exactColumn}
-use Rattle.exact_high_angle.specs.Accuracy.{NoWiderThanOnePartIn, AreaIsAccurate, ColumnIsAccurate, HighAngleIsAccurate, SharpestWidth, ComparesAsNumbers}
+use Rattle.exact_high_angle.specs.ExactHighAngle.{rootFactor, exactFactor, circle, fifthPower, areaSide, numberSide, atMost, exactColumn}
+use Rattle.exact_high_angle.specs.Accuracy.{NoWiderThanOnePartIn, sharpestParts, AreaIsAccurate, ColumnIsAccurate, HighAngleIsAccurate, SharpestWidth, ComparesAsNumbers}
 use Rattle.exact_high_angle.proofs.FifthPowers.{fifth-mono, fifth-order, fifth-times}
 use Rattle.exact_high_angle.proofs.LiesInBracket.{lies-in}
 use Rattle.exact_high_angle.proofs.Width.{width-at, wider, meets-at-most-one}
 use Rattle.exact_high_angle.proofs.ComparedSides.{lies-in-by-test}
 
 module _ (w m : ℕ) (ranges : AcceptedRanges (acceptedHighAngle w m)) where
-  sharpest : NoWiderThanOnePartIn 1151 (acceptedHighAngle w m .area)
+  sharpest : NoWiderThanOnePartIn sharpestParts (acceptedHighAngle w m .area)
   unfolding acceptedHighAngle acceptedWith areaOf
   sharpest = width-at _ _ (157 * (fullWidth w * fullWidth w)) (ranges .factor-least) (ranges .factor-apart)
 
@@ -62,16 +62,16 @@ sharpest-width = record { accepted = refl; wider = λ h. absurd (omega arith) }
 
 module _ (root c : Fraction) (n : ℕ) where
   -- 1.4 × root × circle in the order of each side
-  same : times (times (14 over 10) root) c ≡ times root (times (14 over 10) c)
+  same : times (times rootFactor root) c ≡ times root (times rootFactor c)
   unfolding times
   same = ap₂ (λ (x d : ℕ). x over d) (omega arith) (omega arith)
 
   -- what each of the two factors says of the area, by one number: 1.4 × root × circle and its fifth power
   abbrev area : Fraction
-  area = times root (times (14 over 10) c)
+  area = times root (times rootFactor c)
 
-  power-side : times (fifthPower root) (fifthPower (times (14 over 10) c)) ≡ fifthPower area
-  power-side = sym (fifth-times root (times (14 over 10) c))
+  power-side : times (fifthPower root) (fifthPower (times rootFactor c)) ≡ fifthPower area
+  power-side = sym (fifth-times root (times rootFactor c))
 
   pub compares-as-numbers : ComparesAsNumbers root c n
   unfolding areaSide numberSide

@@ -10,7 +10,7 @@ use Rattle.sheet.specs.Lines.{fullWidth}
 use Rattle.exact_area.specs.ExactArea.{halfWidth}
 use Rattle.high_angle.specs.SafetyFactor.{rootScale}
 use Rattle.high_angle.specs.HighAngle.{areaNum, areaDen}
-use Rattle.exact_high_angle.specs.ExactHighAngle.{fifthPower, circle}
+use Rattle.exact_high_angle.specs.ExactHighAngle.{rootFactor, inKilojoules, fifthPower, circle}
 use Rattle.exact_high_angle.proofs.FifthPowers.{fifth-mono, fifth-times, fifth-pos}
 
 -- a factor of so many thousandths
@@ -33,16 +33,16 @@ circle-pos w = lit< tt
 module _ (e c : Fraction) (c-pos : 0 < c .den) where
   -- the fifth power of 1.4 × root × circle, as a product of three
   abbrev rootArea : Fraction
-  rootArea = times (divided e (1000 over 1)) (fifthPower (times (14 over 10) c))
+  rootArea = times (inKilojoules e) (fifthPower (times rootFactor c))
 
-  apart : times (times (divided e (1000 over 1)) (fifthPower (14 over 10))) (fifthPower c) ≡ rootArea
-  apart = rw (fifth-times (14 over 10) c) (times-assoc _ _ _)
+  apart : times (times (inKilojoules e) (fifthPower rootFactor)) (fifthPower c) ≡ rootArea
+  apart = rw (fifth-times rootFactor c) (times-assoc _ _ _)
 
-  factor-low : (f j : ℕ) → f ^ 5 ≤ rootScale * j → j over 1 ⊑ e → fifthPower (thousandths f) ⊑ times (divided e (1000 over 1)) (fifthPower (14 over 10))
+  factor-low : (f j : ℕ) → f ^ 5 ≤ rootScale * j → j over 1 ⊑ e → fifthPower (thousandths f) ⊑ times (inKilojoules e) (fifthPower rootFactor)
   unfolding fifthPower times divided
   factor-low f j h k = omega (arith, mul-le-mul-right (e .den) h)
 
-  factor-high : (f j : ℕ) → rootScale * j ≤ f ^ 5 → e ⊑ j over 1 → times (divided e (1000 over 1)) (fifthPower (14 over 10)) ⊑ fifthPower (thousandths f)
+  factor-high : (f j : ℕ) → rootScale * j ≤ f ^ 5 → e ⊑ j over 1 → times (inKilojoules e) (fifthPower rootFactor) ⊑ fifthPower (thousandths f)
   unfolding fifthPower times divided
   factor-high f j h k = omega (arith, mul-le-mul-right (e .den) h)
 

@@ -16,7 +16,7 @@ use Rattle.high_angle.specs.SafetyFactor.{largest, smallest, rootFrom, rootTo, 
 use Rattle.high_angle.specs.HighAngle.{energyNum, energyDen, areaDen, joulesOf, factorOf, areaOf, acceptedWith, acceptedHighAngle}
 use Rattle.high_angle.proofs.RootLaws.{largest-low, smallest-high}
 use Rattle.high_angle.proofs.FactorLaws.{factor-below, factor-above, factor-between, scaled-most, low-most, high-least}
-use Rattle.exact_high_angle.specs.ExactHighAngle.{ExactFactor, number, rootOf, below, above, factorAt, exactFactor, exactEnergy, circle, areaSide, numberSide}
+use Rattle.exact_high_angle.specs.ExactHighAngle.{lowestFactor, highestFactor, rootFactor, inKilojoules, ExactFactor, number, rootOf, below, above, factorAt, exactFactor, exactEnergy, circle, areaSide, numberSide}
 use Rattle.exact_high_angle.specs.Accuracy.{LiesInBracket}
 use Rattle.exact_high_angle.proofs.FifthPowers.{fifth-pos}
 use Rattle.exact_high_angle.proofs.Energy.{floor-low, ceiling-high, floor-least, ceiling-most, energy-pos, energy-den-pos, energy-is}
@@ -24,13 +24,13 @@ use Rattle.exact_high_angle.proofs.Between.{thousandths, area-low, area
 
 -- what holds in each of the three cases of the energy holds of the factor
 by-energy : (P : ExactFactor → Type 0) (e : Fraction) →
-    (e .num < rootFrom * e .den → P (number (23 over 10))) → (rootTo * e .den < e .num → P (number (7 over 1))) →
-    (rootFrom * e .den ≤ e .num → e .num ≤ rootTo * e .den → P (rootOf (divided e (1000 over 1)))) → P (factorAt e)
+    (e .num < rootFrom * e .den → P (number lowestFactor)) → (rootTo * e .den < e .num → P (number highestFactor)) →
+    (rootFrom * e .den ≤ e .num → e .num ≤ rootTo * e .den → P (rootOf (inKilojoules e))) → P (factorAt e)
 unfolding factorAt
 by-energy P e x y z = by-tests (below e rootFrom) (above e rootTo) refl refl
   where
     by-tests : (b c : Bool) → below e rootFrom ≡ b → above e rootTo ≡ c →
-        P (cond b (number (23 over 10)) (cond c (number (7 over 1)) (rootOf (divided e (1000 over 1)))))
+        P (cond b (number lowestFactor) (cond c (number highestFactor) (rootOf (inKilojoules e))))
     by-tests true c eb ec = x (ltb-true _ _ eb)
     by-tests false true eb ec = y (ltb-true _ _ ec)
     by-tests false false eb ec = z (ltb-false _ _ eb) (ltb-false _ _ ec)
@@ -63,26 +63,26 @@ module _ (e : Fraction) (n d : ℕ) (pos : 0 < e .den) (d-pos : 0 < d) (same : e
   joules-high : e ⊑ k over 1
   joules-high = ceiling-high e n d pos d-pos same
 
-  kilo-pos : 0 < divided e (1000 over 1) .den
+  kilo-pos : 0 < inKilojoules e .den
   unfolding divided
   kilo-pos = omega arith
 
   module _ (w low high : ℕ) (l : low over 1 ⊑ times (thousandths (lowFactor j)) (circle w)) (h : times (thousandths (highFactor k)) (circle w) ⊑ high over 1) where
-    below-case : e .num < rootFrom * e .den → LiesInBracket (number (23 over 10)) (circle w) (bracket low high)
+    below-case : e .num < rootFrom * e .den → LiesInBracket (number lowestFactor) (circle w) (bracket low high)
     unfolding lowFactor
     below-case t =
         let small : j < rootFrom = lt-of-mul-lt-mul-right (e .den) {m = j} {n = rootFrom} (omega (arith, joules-low))
-        in within-number (23 over 10) w low high (lowFactor j) (highFactor k) (lit< tt) l h
+        in within-number lowestFactor w low high (lowFactor j) (highFactor k) (lit< tt) l h
         (omega (arith, factor-below (largest factorAbove) j small)) (omega (arith, high-least k))
 
-    above-case : rootTo * e .den < e .num → LiesInBracket (number (7 over 1)) (circle w) (bracket low high)
+    above-case : rootTo * e .den < e .num → LiesInBracket (number highestFactor) (circle w) (bracket low high)
     unfolding highFactor
     above-case t =
         let large : rootTo < k = lt-of-mul-lt-mul-right (e .den) {m = rootTo} {n = k} (omega (arith, joules-high))
-        in within-number (7 over 1) w low high (lowFactor j) (highFactor k) (lit< tt) l h
+        in within-number highestFactor w low high (lowFactor j) (highFactor k) (lit< tt) l h
         (omega (arith, low-most j)) (omega (arith, factor-above (smallest factorAbove) k large))
 
-    between-case : rootFrom * e .den ≤ e .num → e .num ≤ rootTo * e .den → LiesInBracket (rootOf (divided e (1000 over 1))) (circle w) (bracket low high)
+    between-case : rootFrom * e .den ≤ e .num → e .num ≤ rootTo * e .den → LiesInBracket (rootOf (inKilojoules e)) (circle w) (bracket low high)
     unfolding areaSide numberSide lowFactor highFactor
     between-case s t =
         let j-least : rootFrom ≤ j = floor-least e n d pos d-pos same rootFrom s
@@ -91,7 +91,7 @@ module _ (e : Fraction) (n d : ℕ) (pos : 0 < e .den) (d-pos : 0 < d) (same : e
         in let k-most : k ≤ rootTo = ceiling-most e n d pos d-pos same rootTo t
         in record {
           denominator-above-zero =
-              times-pos (divided e (1000 over 1)) _ kilo-pos (fifth-pos _ (times-pos (14 over 10) (circle w) (lit< tt) (circle-pos w)));
+              times-pos (inKilojoules e) _ kilo-pos (fifth-pos _ (times-pos rootFactor (circle w) (lit< tt) (circle-pos w)));
           low-at-most =
               root-low e (circle w) (circle-pos w) low (lowFactor j) j l
               (rw (factor-between (largest factorAbove) j j-least j-most) (largest-low (rootScale * j) factorAbove)) joules-low;

@@ -8,15 +8,15 @@ use Rattle.columns.specs.declared.Bracket.{Bracket}
 use Rattle.columns.proofs.LimitLaws.{limit-tenfold, limit-mono}
 use Rattle.high_angle.specs.SafetyFactor.{factorBelow}
 use Rattle.high_angle.specs.HighAngle.{areaDen}
-use Rattle.exact_high_angle.specs.Accuracy.{NoWiderThanOnePartIn}
+use Rattle.exact_high_angle.specs.Accuracy.{NoWiderThanOnePartIn, sharpestParts}
 
 -- 2 thousandths are one part in 1,151 of 2,302 thousandths, the least factor that can lie 2 above the low one
-pub width-at : (f g x : ℕ) → factorBelow ≤ f → g ≤ f + 2 → 1151 * (divUp (g * x) areaDen - f * x / areaDen) ≤ divUp (g * x) areaDen + 1151 * 2
+pub width-at : (f g x : ℕ) → factorBelow ≤ f → g ≤ f + 2 → sharpestParts * (divUp (g * x) areaDen - f * x / areaDen) ≤ divUp (g * x) areaDen + sharpestParts * 2
 unfolding divUp
 width-at f g x k h = omega (arith, mul-le-mul-right x h, mul-le-mul-right x k)
 
--- what is no wider than one part in 1,151 is no wider than one in 500
-pub wider : (area : Bracket) → NoWiderThanOnePartIn 1151 area → NoWiderThanOnePartIn 500 area
+-- what is no wider than the sharpest is no wider than one part in 500
+pub wider : (area : Bracket) → NoWiderThanOnePartIn sharpestParts area → NoWiderThanOnePartIn 500 area
 wider area h = omega arith
 
 -- two limits lie ten times apart, and the bracket is narrower than that

@@ -2,13 +2,13 @@
 use mathlib.Core.Path.{_≡_}
 use mathlib.Core.Logic.{_↔_}
 use Prim.Native.Nat.{ℕ, _+_, _-_, _*_, _≤_, _<_}
-use Rattle.arithmetic.specs.Fraction.{Fraction, _over_, times}
+use Rattle.arithmetic.specs.Fraction.{Fraction, times}
 use Rattle.columns.specs.Column.{lastLimit}
 use Rattle.columns.specs.ExactColumn.{ColumnAgrees}
 use Rattle.columns.specs.declared.Bracket.{Bracket}
 use Rattle.high_angle.specs.declared.HighAngle.{HighAngle}
 use Rattle.high_angle.specs.HighAngle.{highAngleOf}
-use Rattle.exact_high_angle.specs.ExactHighAngle.{ExactFactor, number, rootOf, exactFactor, circle, fifthPower, areaSide, AtLeast, AtMost, exactColumn}
+use Rattle.exact_high_angle.specs.ExactHighAngle.{rootFactor, ExactFactor, number, rootOf, exactFactor, circle, fifthPower, areaSide, AtLeast, AtMost, exactColumn}
 
 -- "the exact area, with the exact energy from that frontal area, lies in the bracket": in all three cases of the factor
 pub record LiesInBracket (factor : ExactFactor) (circle : Fraction) (area : Bracket) : Type 0 where
@@ -20,12 +20,15 @@ pub record LiesInBracket (factor : ExactFactor) (circle : Fraction) (area : Brac
 abbrev pub NoWiderThanOnePartIn : ℕ → Bracket → Type 0
 NoWiderThanOnePartIn parts area = parts * (area .high - area .low) ≤ area .high + parts * 2
 
+-- the sharpest such width in whole parts
+abbrev pub sharpestParts : ℕ
+sharpestParts = 1151
+
 pub record AreaIsAccurate (w m : ℕ) (area : Bracket) : Type 0 where
   pub lies-in : LiesInBracket (exactFactor w m) (circle w) area
   -- "the bracket is no wider than one part in 500 of the high area plus 2 square centimetres"
   pub width : NoWiderThanOnePartIn 500 area
-  -- the sharpest such width in whole parts: see SharpestWidth
-  pub sharpest-width : NoWiderThanOnePartIn 1151 area
+  pub sharpest-width : NoWiderThanOnePartIn sharpestParts area
   -- "show that refusal 4 never occurs here"
   pub within-last-limit : area .high ≤ lastLimit
 
@@ -39,12 +42,12 @@ pub record HighAngleIsAccurate (w m v : ℕ) : Type 0 where
   pub column : highAngleOf w m v .refusal ≡ 0 → ColumnIsAccurate w m (highAngleOf w m v)
   pub never-4 : highAngleOf w m v .refusal ≡ 4 → ⊥
 
--- one part in 1,152 is too narrow for an accepted multirotor of 34,164 mm and 159,990 g, whose joules lie on both sides of 12,000
+-- one part more is too many for an accepted multirotor: that of 34,164 mm and 159,990 g, whose joules are 11,999 and 12,000
 pub record SharpestWidth : Type 0 where
   pub accepted : highAngleOf 34164 159990 0 .refusal ≡ 0
-  pub wider : NoWiderThanOnePartIn 1152 (highAngleOf 34164 159990 0 .area) → ⊥
+  pub wider : NoWiderThanOnePartIn (sharpestParts + 1) (highAngleOf 34164 159990 0 .area) → ⊥
 
 -- what the comparison by fifth powers means: where the root is a fraction, it is the comparison of the numbers themselves
 pub record ComparesAsNumbers (root circle : Fraction) (n : ℕ) : Type 0 where
-  pub at-least : AtLeast (rootOf (fifthPower root)) circle n ↔ AtLeast (number (times (14 over 10) root)) circle n
-  pub at-most : AtMost (rootOf (fifthPower root)) circle n ↔ AtMost (number (times (14 over 10) root)) circle n
+  pub at-least : AtLeast (rootOf (fifthPower root)) circle n ↔ AtLeast (number (times rootFactor root)) circle n
+  pub at-most : AtMost (rootOf (fifthPower root)) circle n ↔ AtMost (number (times rootFactor root)) circle n

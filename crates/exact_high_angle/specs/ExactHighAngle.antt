@@ -1,6 +1,6 @@
 -- The exact high impact angle area (document 02, item 2; chapter 5 of 002), in metres, kg and kJ, never rounded.
 use mathlib.Core.Bool.{Bool, cond}
-use Prim.Native.Nat.{ℕ, _*_, _^_}
+use Prim.Native.Nat.{ℕ, _+_, _*_, _^_}
 use lib.Dec.{leb, ltb}
 use Rattle.arithmetic.specs.Fraction.{Fraction, _over_, times, divided, _⊑_}
 use Rattle.columns.specs.Column.{columnBy}
@@ -23,6 +23,20 @@ below x n = ltb (x .num) (n * x .den)
 abbrev pub above : Fraction → ℕ → Bool
 above x n = ltb (n * x .den) (x .num)
 
+-- "2.3", "7", "1.4"
+abbrev pub lowestFactor : Fraction
+lowestFactor = 23 over 10
+
+abbrev pub highestFactor : Fraction
+highestFactor = 7 over 1
+
+abbrev pub rootFactor : Fraction
+rootFactor = 14 over 10
+
+-- "the energy in kJ"
+abbrev pub inKilojoules : Fraction → Fraction
+inKilojoules energy = divided energy (1000 over 1)
+
 -- a factor that is a number, or that is 1.4 times the fifth root of a number of kJ
 pub data ExactFactor : Type 0 where
   number : Fraction → ExactFactor
@@ -31,8 +45,8 @@ pub data ExactFactor : Type 0 where
 -- "The factor is 2.3 below 12,000 J and 7 above 3,125,000 J. Between them it is 1.4 times the fifth root of the energy in kJ." Table 6.
 unfoldable pub factorAt : Fraction → ExactFactor
 factorAt energy =
-    cond (below energy rootFrom) (number (23 over 10))
-    (cond (above energy rootTo) (number (7 over 1)) (rootOf (divided energy (1000 over 1))))
+    cond (below energy rootFrom) (number lowestFactor)
+    (cond (above energy rootTo) (number highestFactor) (rootOf (inKilojoules energy)))
 
 abbrev pub exactFactor : ℕ → ℕ → ExactFactor
 exactFactor w m = factorAt (exactEnergy w m)
@@ -48,7 +62,7 @@ fifthPower x = (x .num ^ 5) over (x .den ^ 5)
 -- comparison as themselves, or each by its fifth power; that of 1.4 × root × circle is the kJ × (1.4 × circle)⁵.
 unfoldable pub areaSide : ExactFactor → Fraction → Fraction
 areaSide (number factor) circle = times factor circle
-areaSide (rootOf kJ) circle = times kJ (fifthPower (times (14 over 10) circle))
+areaSide (rootOf kJ) circle = times kJ (fifthPower (times rootFactor circle))
 
 unfoldable pub numberSide : ExactFactor → ℕ → Fraction
 numberSide (number factor) n = n over 1

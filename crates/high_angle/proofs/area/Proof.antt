@@ -1,4 +1,5 @@
 -- `area` rounds the factor × 3.14 × D² outward.
+use mathlib.Core.Path.{refl}
 use Prim.Native.Nat.{ℕ, _*_, _≤_}
 use native.Mathlib.Nat.{mul-le-mul, mul-le-mul-left}
 use native.Mathlib.Omega.{arith}
@@ -33,7 +34,7 @@ add-high c = let s = c .before .before in omega (arith, product-fits (s .args .a
 
 returns : tie.Need-returns
 unfolding areaOf divUp
-returns c = cc
+returns c = refl
 
 pub area-spec : {M : Type 1} → statement M
 area-spec = tie.close (tie.spec mul-square mul-square-2 mul-low mul-high add-high returns)

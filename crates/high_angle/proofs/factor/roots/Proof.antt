@@ -19,6 +19,9 @@ unfolding factorOf lowFactor highFactor
 between joules a b c d e f =
     ap₂ bracket (e ∙ sym (factor-between (largest factorAbove) (joules .low) a b)) (f ∙ sym (factor-between (smallest factorAbove) (joules .high) c d))
 
+reached : (x : ℕ) {low below : ℕ} → low ≡ largest factorAbove x → below ≡ low ^ 5 → below ≤ x
+reached x e p = rw (p, e) (largest-low x factorAbove)
+
 cast-guess : tie.Need-cast-guess
 cast-guess c = search needs
 
@@ -36,10 +39,8 @@ mul-smallest-at-least c = search needs
 
 smallest-at-least-requires : tie.Need-smallest-at-least-requires
 smallest-at-least-requires c κs =
-    let at-root = c .before in
-    let root = at-root .largest-at-most in
-    let joules = at-root .before .before .before .before .args .joules in
-    (root .ensures .1, omega (arith, root .ensures .1 .below, rw (← (root .ensures .0)) at (largest-low (rootScale * joules .low) factorAbove)), omega arith)
+    let root = c .before .largest-at-most .ensures in
+    (root .1, omega (arith, reached _ (root .0) (root .1 .below)), omega arith)
 
 returns : tie.Need-returns
 returns c =
