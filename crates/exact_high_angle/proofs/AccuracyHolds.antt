@@ -1,21 +1,19 @@
 -- The accuracy rule, of the answers of `highAngleOf`.
-use mathlib.Core.Path.{_≡_, refl, sym, ap₂, _∙_}
-use mathlib.Core.Logic.{_↔_}
-use Prim.Native.Nat.{ℕ, _*_, _≤_, _<_}
+use mathlib.Core.Path.{_≡_, refl, sym, ap₂}
+use Prim.Native.Nat.{ℕ, _*_, _≤_}
 use native.Mathlib.Nat.{le-trans}
 use native.Mathlib.Omega.{arith}
 use lib.Dec.{lit≤}
-use Rattle.arithmetic.specs.Fraction.{Fraction, _over_, times, _⊑_}
+use Rattle.arithmetic.specs.Fraction.{Fraction, _over_, times}
 use Rattle.arithmetic.specs.Rounding.{divUp}
-use Rattle.columns.specs.Column.{columnBy, columnOf, flagOf, columnAndFlagOf}
 use Rattle.columns.proofs.ExactColumnHolds.{exact-column}
 use Rattle.sheet.specs.Lines.{fullWidth}
-use Rattle.frontal_area.specs.FrontalArea.{lastDimension, frontalArea}
+use Rattle.frontal_area.specs.FrontalArea.{frontalArea}
 use Rattle.high_angle.specs.SafetyFactor.{largest, smallest, lowFactor, highFactor}
 use Rattle.high_angle.specs.HighAngle.{joulesOf, factorOf, areaOf, acceptedWith, acceptedHighAngle, highAngleOf}
 use Rattle.high_angle.specs.Promises.{AcceptedRanges}
 use Rattle.high_angle.proofs.PromisesHold.{high-angle-promise, high-angle-laws}
-use Rattle.exact_high_angle.specs.ExactHighAngle.{rootFactor, exactFactor, circle, fifthPower, areaSide, numberSide, atMost, exactColumn}
+use Rattle.exact_high_angle.specs.ExactHighAngle.{rootFactor, exactFactor, circleOf, fifthPower, areaSide, numberSide, atMost, exactColumn}
 use Rattle.exact_high_angle.specs.Accuracy.{NoWiderThanOnePartIn, sharpestParts, AreaIsAccurate, ColumnIsAccurate, HighAngleIsAccurate, SharpestWidth, ComparesAsNumbers}
 use Rattle.exact_high_angle.proofs.FifthPowers.{fifth-mono, fifth-order, fifth-times}
 use Rattle.exact_high_angle.proofs.LiesInBracket.{lies-in}
@@ -40,7 +38,7 @@ module _ (w m : ℕ) (ranges : AcceptedRanges (acceptedHighAngle w m)) where
   unfolding exactColumn acceptedHighAngle acceptedWith
   accepted-column =
       let area = acceptedHighAngle w m .area in
-      exact-column area (atMost (exactFactor w m) (circle w)) (lies-in-by-test _ _ area (lies-in w m)) (meets-at-most-one area (accepted-area .width)) (accepted-area .within-last-limit)
+      exact-column area (atMost (exactFactor w m) (circleOf w)) (lies-in-by-test _ _ area (lies-in w m)) (meets-at-most-one area (accepted-area .width)) (accepted-area .within-last-limit)
 
 pub high-angle-is-accurate : (w m v : ℕ) → HighAngleIsAccurate w m v
 high-angle-is-accurate w m v =

@@ -10,7 +10,7 @@ use Rattle.sheet.specs.Lines.{fullWidth}
 use Rattle.exact_area.specs.ExactArea.{halfWidth}
 use Rattle.high_angle.specs.SafetyFactor.{rootScale}
 use Rattle.high_angle.specs.HighAngle.{areaNum, areaDen}
-use Rattle.exact_high_angle.specs.ExactHighAngle.{rootFactor, inKilojoules, fifthPower, circle}
+use Rattle.exact_high_angle.specs.ExactHighAngle.{rootFactor, inKilojoules, fifthPower, circleOf}
 use Rattle.exact_high_angle.proofs.FifthPowers.{fifth-mono, fifth-times, fifth-pos}
 
 -- a factor of so many thousandths
@@ -18,16 +18,16 @@ abbrev pub thousandths : ℕ → Fraction
 thousandths f = f over 1000
 
 module _ (x f w : ℕ) where
-  pub area-low : x * areaDen ≤ areaNum (fullWidth w) f → x over 1 ⊑ times (thousandths f) (circle w)
-  unfolding circle halfWidth plus divided times
+  pub area-low : x * areaDen ≤ areaNum (fullWidth w) f → x over 1 ⊑ times (thousandths f) (circleOf w)
+  unfolding circleOf halfWidth plus divided times
   area-low h = omega arith
 
-  pub area-high : areaNum (fullWidth w) f ≤ x * areaDen → times (thousandths f) (circle w) ⊑ x over 1
-  unfolding circle halfWidth plus divided times
+  pub area-high : areaNum (fullWidth w) f ≤ x * areaDen → times (thousandths f) (circleOf w) ⊑ x over 1
+  unfolding circleOf halfWidth plus divided times
   area-high h = omega arith
 
-pub circle-pos : (w : ℕ) → 0 < circle w .den
-unfolding circle halfWidth plus divided times
+pub circle-pos : (w : ℕ) → 0 < circleOf w .den
+unfolding circleOf halfWidth plus divided times
 circle-pos w = lit< tt
 
 module _ (e c : Fraction) (c-pos : 0 < c .den) where

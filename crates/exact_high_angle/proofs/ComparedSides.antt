@@ -1,11 +1,10 @@
 -- The exact area against a whole number: the test goes with the number.
 use mathlib.Core.Path.{_≡_, refl}
-use mathlib.Core.Bool.{true}
-use Prim.Native.Nat.{ℕ, _*_, _^_, _≤_, _<_}
-use native.Mathlib.Nat.{mul-le-mul-right, le-of-mul-le-mul-right, le-trans, pow-le-pow-left}
+use Prim.Native.Nat.{ℕ, _*_, _≤_}
+use native.Mathlib.Nat.{mul-le-mul-right, le-of-mul-le-mul-right, pow-le-pow-left}
 use native.Mathlib.Omega.{arith}
 use borrow.Author.Tests.{leb-true, le-leb}
-use Rattle.arithmetic.specs.Fraction.{Fraction, _over_, times, divided, _⊑_}
+use Rattle.arithmetic.specs.Fraction.{Fraction}
 use Rattle.columns.specs.ExactColumn.{LiesIn}
 use Rattle.columns.specs.declared.Bracket.{Bracket}
 use Rattle.high_angle.proofs.RootLaws.{power-at-most}

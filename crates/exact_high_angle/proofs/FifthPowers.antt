@@ -1,13 +1,11 @@
 -- Fifth powers of fractions: they go with the order, both ways, and with the product.
-use mathlib.Core.Path.{_≡_, refl, ap, ap₂, _∙_, sym}
-use mathlib.Core.Logic.{_↔_}
-use Prim.Native.Nat.{ℕ, _*_, _^_, _≤_, _<_}
+use mathlib.Core.Path.{_≡_, ap₂}
+use Prim.Native.Nat.{ℕ, _*_, _^_, _<_}
 use native.Mathlib.Nat.{pow-le-pow-left, one-le-pow}
 use native.Mathlib.Omega.{arith}
 use Rattle.arithmetic.specs.Fraction.{Fraction, _over_, times, _⊑_}
 use Rattle.high_angle.proofs.RootLaws.{product, power-at-most}
-use Rattle.exact_high_angle.specs.ExactHighAngle.{number, rootOf, fifthPower, areaSide, numberSide}
-use Rattle.exact_high_angle.specs.Accuracy.{ComparesAsNumbers}
+use Rattle.exact_high_angle.specs.ExactHighAngle.{fifthPower}
 
 power-times : (a b : ℕ) → (a * b) ^ 5 ≡ a ^ 5 * b ^ 5
 power-times a b = rw (product (a * b), product a, product b) (omega arith)

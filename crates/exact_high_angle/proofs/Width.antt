@@ -1,5 +1,5 @@
 -- How wide the bracket is: its factors are at most 2 thousandths apart, and the lower is at least 2,300.
-use Prim.Native.Nat.{ℕ, _+_, _-_, _*_, _/_, _≤_, _<_}
+use Prim.Native.Nat.{ℕ, _+_, _-_, _*_, _/_, _≤_}
 use native.Mathlib.Nat.{mul-le-mul-right}
 use native.Mathlib.Omega.{arith}
 use Rattle.arithmetic.specs.Rounding.{divUp}

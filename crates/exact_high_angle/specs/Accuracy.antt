@@ -8,7 +8,7 @@ use Rattle.columns.specs.ExactColumn.{ColumnAgrees}
 use Rattle.columns.specs.declared.Bracket.{Bracket}
 use Rattle.high_angle.specs.declared.HighAngle.{HighAngle}
 use Rattle.high_angle.specs.HighAngle.{highAngleOf}
-use Rattle.exact_high_angle.specs.ExactHighAngle.{rootFactor, ExactFactor, number, rootOf, exactFactor, circle, fifthPower, areaSide, AtLeast, AtMost, exactColumn}
+use Rattle.exact_high_angle.specs.ExactHighAngle.{rootFactor, ExactFactor, number, rootOf, exactFactor, circleOf, fifthPower, areaSide, AtLeast, AtMost, exactColumn}
 
 -- "the exact area, with the exact energy from that frontal area, lies in the bracket": in all three cases of the factor
 pub record LiesInBracket (factor : ExactFactor) (circle : Fraction) (area : Bracket) : Type 0 where
@@ -25,7 +25,7 @@ abbrev pub sharpestParts : ℕ
 sharpestParts = 1151
 
 pub record AreaIsAccurate (w m : ℕ) (area : Bracket) : Type 0 where
-  pub lies-in : LiesInBracket (exactFactor w m) (circle w) area
+  pub lies-in : LiesInBracket (exactFactor w m) (circleOf w) area
   -- "the bracket is no wider than one part in 500 of the high area plus 2 square centimetres"
   pub width : NoWiderThanOnePartIn 500 area
   pub sharpest-width : NoWiderThanOnePartIn sharpestParts area

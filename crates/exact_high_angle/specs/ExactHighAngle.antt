@@ -1,6 +1,6 @@
 -- The exact high impact angle area (document 02, item 2; chapter 5 of 002), in metres, kg and kJ, never rounded.
 use mathlib.Core.Bool.{Bool, cond}
-use Prim.Native.Nat.{ℕ, _+_, _*_, _^_}
+use Prim.Native.Nat.{ℕ, _*_, _^_}
 use lib.Dec.{leb, ltb}
 use Rattle.arithmetic.specs.Fraction.{Fraction, _over_, times, divided, _⊑_}
 use Rattle.columns.specs.Column.{columnBy}
@@ -52,8 +52,8 @@ abbrev pub exactFactor : ℕ → ℕ → ExactFactor
 exactFactor w m = factorAt (exactEnergy w m)
 
 -- "3.14 × D²", in square centimetres: what the factor multiplies. Formula (11).
-unfoldable pub circle : ℕ → Fraction
-circle w = times (10000 over 1) (times (314 over 100) (times (halfWidth w) (halfWidth w)))
+unfoldable pub circleOf : ℕ → Fraction
+circleOf w = times (10000 over 1) (times (314 over 100) (times (halfWidth w) (halfWidth w)))
 
 unfoldable pub fifthPower : Fraction → Fraction
 fifthPower x = (x .num ^ 5) over (x .den ^ 5)
@@ -82,4 +82,4 @@ atMost factor circle n =
 
 -- the first column whose area limit is at least the exact area
 unfoldable pub exactColumn : ℕ → ℕ → ℕ
-exactColumn w m = columnBy (atMost (exactFactor w m) (circle w))
+exactColumn w m = columnBy (atMost (exactFactor w m) (circleOf w))

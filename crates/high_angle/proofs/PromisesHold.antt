@@ -1,7 +1,7 @@
 -- What is promised of every high impact angle answer.
 use mathlib.Core.Path.{_≡_, refl}
 use Prim.Native.Nat.{ℕ, _+_, _*_, _/_, _≤_, _<_}
-use native.Mathlib.Nat.{mul-le-mul, mul-le-mul-left, mul-le-mul-right, le-trans, le-refl}
+use native.Mathlib.Nat.{mul-le-mul, mul-le-mul-left, mul-le-mul-right, le-trans}
 use native.Mathlib.Omega.{arith}
 use lib.Dec.{leb, lit<, lit≤}
 use borrow.Author.Tests.{le-leb}

@@ -1,5 +1,4 @@
 -- The high impact angle area of a multirotor and its refusals (document 02, item 2; chapter 5 of 002).
-use mathlib.Core.List.{List}
 use Prim.Native.Nat.{ℕ, _*_}
 use Rattle.arithmetic.specs.Refusals.{answered}
 use Rattle.columns.specs.Bracket.{bracket, roundedOutward}

@@ -1,6 +1,6 @@
 -- The safety factor of table 6 of 002 (document 02, item 2), in thousandths: fifth roots in whole numbers.
 use mathlib.Core.Bool.{cond}
-use Prim.Native.Nat.{ℕ, zero, suc, _+_, _*_, _^_}
+use Prim.Native.Nat.{ℕ, zero, suc, _*_, _^_}
 use lib.Dec.{leb, ltb}
 
 -- "the largest whole number whose fifth power is at most" x, of those up to n

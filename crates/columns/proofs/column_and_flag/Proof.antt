@@ -1,6 +1,6 @@
 -- `column_and_flag` finds the first limit that is at least the high area.
 use mathlib.Core.Path.{_≡_, refl}
-use Prim.Native.Nat.{ℕ, suc, _+_, _-_, _≤_}
+use Prim.Native.Nat.{_-_, _≤_}
 use native.Mathlib.Omega.{arith}
 use Rattle.columns.specs.Column.{columnOf}
 use Rattle.columns.proofs.ColumnFromFirst.{columnFrom, flaggedTo, by-all-limits, limit-passed, limit-met, no-limit}

@@ -1,6 +1,5 @@
 -- `high_angle_of` gives the answer, or its refusal.
 use mathlib.Core.Path.{refl, sym, _∙_}
-use native.Mathlib.Omega.{arith}
 use borrow.Author.Needs.{needs}
 use Rattle.arithmetic.proofs.RefusalLaws.{refused-by, accepted-by}
 use Rattle.frontal_area.specs.FrontalArea.{multirotorTests}

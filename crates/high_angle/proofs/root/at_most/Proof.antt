@@ -1,6 +1,6 @@
 -- `at_most` goes down to a fifth power that is at most x.
 use mathlib.Core.Path.{_≡_}
-use Prim.Native.Nat.{ℕ, _^_, _≤_, _<_}
+use Prim.Native.Nat.{_^_, _≤_}
 use native.Mathlib.Omega.{arith}
 use Rattle.high_angle.specs.PrivateBounds.{baseMax}
 use Rattle.high_angle.proofs.RootLaws.{power-below}
