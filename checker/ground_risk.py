@@ -273,13 +273,13 @@ FRONTAL_POINTS = ((1_000, 100_000), (3_000, 500_000), (8_000, 2_500_000),
                   (20_000, 12_500_000), (40_000, 25_000_000))
 # "16 when, after 1 to 3, the dimension is outside 1,000 to 40,000 mm."
 FRONTAL_RANGE = (1_000, 40_000)
-# "1.225 × 0.8 × frontal area": the air density and the drag coefficient of 002
+# "1.225 × 0.8 × frontal area": the air density, Annex F's, and the drag coefficient, 002's
 AIR_DENSITY = Fraction("1.225")
 DRAG_COEFFICIENT = Fraction("0.8")
 # "The factor is 2.3 below 12,000 J and 7 above 3,125,000 J. Between them it is
 #  1.4 times the fifth root of the energy in kJ."
 ROOT_FROM, ROOT_TO = 12_000, 3_125_000
-# of every whole number that is a factor in thousandths, or less than one
+# of every whole number up to 7,000, the largest factor in thousandths
 FIFTH_POWERS = [number ** 5 for number in range(7_001)]
 
 

@@ -22,6 +22,8 @@ AIRCRAFT = (
         (3_385, 28_000, 0), (3_385, 27_999, 0), (3_385, 28_001, 0))),
     ("between 11,999 and 12,000 J, the factor from 2.3 to above the root", (
         (34_164, 159_990, 0),)),
+    ("up to 3,125,000 J, and from there on", (
+        (1_035, 182_766, 0), (1_039, 183_448, 0))),
     ("exactly 3,125,000 J, and one gram less and more", (
         (2_462, 350_000, 0), (2_462, 349_999, 0), (2_462, 350_001, 0))),
     ("flagged, with the exact column the one before, and the same", (

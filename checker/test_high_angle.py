@@ -93,7 +93,7 @@ class RefusalsTest(unittest.TestCase):
         self.assertEqual(g.exact_circle(40_000), Fraction("1293.9626"))
         before = 0
         for w in range(1_000, 40_001):
-            area = -(-7_000 * 785 * (w + 600) ** 2 // 10 ** 8)
+            area = g.high_angle_area_line(w, g.Line(7_000, 7_000)).high
             self.assertLess(before, area)
             before = area
         self.assertEqual(before, largest.area.high)
@@ -301,7 +301,9 @@ class ExactAreaTest(unittest.TestCase):
         sample += [draw(source) for draw in (drawn, near_a_joint, near_a_limit) for _ in range(1_000)]
         for w, m in sample:
             numerator, denominator = quick_power(w, m)
-            self.assertEqual(Fraction(numerator, denominator), g.exact_high_angle_power(w, m, 0), (w, m))
+            power = g.exact_high_angle_power(w, m, 0)
+            self.assertEqual(Fraction(numerator, denominator), power, (w, m))
+            self.assertTrue(g.lies_in(power, g.high_angle(w, m, 0).area), (w, m))
 
     def test_exact_columns_of_the_definition(self):
         source = random.Random(SEED + 2)
@@ -385,7 +387,8 @@ class PointsTest(unittest.TestCase):
             self.assertTrue(any(start < point.dimension < end for point in accepted))
         self.assertTrue(any(3 * point.frontal_area != 2_500 * point.dimension - 12_500_000
                             for point in accepted if 8_000 < point.dimension < 20_000))
-        self.assertLessEqual({(11_999, 12_000), (12_000, 12_000), (12_000, 12_001), (3_125_000, 3_125_000)},
+        self.assertLessEqual({(11_998, 11_999), (11_999, 12_000), (12_000, 12_000), (12_000, 12_001), (3_124_999, 3_125_000),
+                              (3_125_000, 3_125_000), (3_125_000, 3_125_001)},
                              {(point.joules_low, point.joules_high) for point in accepted})
         self.assertEqual({point.column - point.exact_column for point in accepted if point.flag == 1}, {0, 1})
         self.assertEqual({point.column for point in accepted}, {1, 2, 3, 4, 5})

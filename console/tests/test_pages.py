@@ -120,6 +120,12 @@ class ReadmeTest(unittest.TestCase):
         for source, unit in ((README, "cm²"), (joined(HEADER), "square centimetres"), (joined(ANSWERS), "square centimetres")):
             self.assertIn(f"one part in 500 of the high area plus 2 {unit}", source)
 
+    def test_who_may_use_the_high_angle(self):
+        package = (ROOT / "console/rust/src/lib.rs").read_text()
+        for page in (README, HEADER, package):
+            for word in ("rotorcraft", "multirotor", "60 degrees"):
+                self.assertIn(word, joined(page))
+
     def test_the_high_angles_that_are_shown(self):
         aircraft = numbers_in(re.search(r"high_angle-in-words (\d.*)", README)[1])
         low, high, column, other = numbers_in(re.search(r"which on the sheet has (.*?) here\.", README)[1])

@@ -46,8 +46,8 @@ pub fn mass_of_energy(joules: f64, dimension: u32) -> u32 {
     (joules * 98.0 * frontal_area as f64 / 981.0).sqrt() as u32
 }
 
-/// For the high impact angle model: of all its dimensions, with an energy from 5,000 to 5,120,000 J, as often below twice the least as
-/// above half the greatest, so that most factors are roots.
+/// For the high impact angle model: of all its dimensions, with an energy from 5,000 to 5,120,000 J, each doubling as often as the
+/// next, so that most factors are roots.
 pub fn steep_aircraft(random: &mut Random) -> Aircraft {
     let dimension = random.one_of(&[(1_000, 3_000), (3_001, 8_000), (8_001, 20_000), (20_001, 40_000)]);
     let dimension = random.between(dimension.0, dimension.1);

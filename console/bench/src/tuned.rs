@@ -1,5 +1,5 @@
 //! The operations tuned by hand for the same target (x86-64 with SSE2, safe Rust, no intrinsics): no early exit where bytes or
-//! cells are walked, lanes of digits, cells chosen by masks, one division where two quotients differ by one, roots from tables.
+//! cells are walked, lanes of digits, cells chosen by masks, one division where two quotients differ by one, roots from parabolas.
 
 use crate::ffi::{Bracket, CaseHead, Footprint, FrameFields, HighAngle, Reading, Sheet, SheetAnswer};
 use nuggetbay::layout::{frame_place, line_1_place, COUNTS, COUNT_LINE, LINE_1_LENGTH, MARKS, MARK_LINE};

@@ -1,4 +1,4 @@
--- The exact area lies in the bracket: low and high go through the formula by the laws of fractions, and nothing is multiplied out.
+-- The ends of factor and area against the exact ones, and through them the ends of the area's fifth power, which isn't multiplied out.
 use mathlib.Core.Path.{_≡_}
 use Prim.Native.Nat.{ℕ, _*_, _^_, _≤_, _<_}
 use native.Mathlib.Nat.{mul-le-mul-right}

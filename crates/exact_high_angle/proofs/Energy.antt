@@ -34,9 +34,6 @@ module _ (w m : ℕ) where
   unfolding exactEnergy divided times
   energy-pos = omega (arith, frontal-area-promise .least w)
 
-  pub energy-den-pos : 0 < energyDen (frontalArea w)
-  energy-den-pos = omega (arith, frontal-area-promise .least w)
-
   -- the paper's formula is that of the joules
   pub energy-is : exactEnergy w m .num * energyDen (frontalArea w) ≡ energyNum m * exactEnergy w m .den
   unfolding exactEnergy divided times

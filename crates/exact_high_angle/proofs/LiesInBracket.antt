@@ -14,12 +14,13 @@ use Rattle.columns.specs.Bracket.{bracket}
 use Rattle.frontal_area.specs.FrontalArea.{frontalArea}
 use Rattle.high_angle.specs.SafetyFactor.{largest, smallest, rootFrom, rootTo, factorAbove, rootScale, lowFactor, highFactor}
 use Rattle.high_angle.specs.HighAngle.{energyNum, energyDen, areaDen, joulesOf, factorOf, areaOf, acceptedWith, acceptedHighAngle}
+use Rattle.high_angle.proofs.AnswerMade.{energy-den-pos}
 use Rattle.high_angle.proofs.RootLaws.{largest-low, smallest-high}
 use Rattle.high_angle.proofs.FactorLaws.{factor-below, factor-above, factor-between, scaled-most, low-most, high-least}
 use Rattle.exact_high_angle.specs.ExactHighAngle.{lowestFactor, highestFactor, rootFactor, inKilojoules, ExactFactor, number, rootOf, below, above, factorAt, exactFactor, exactEnergy, circleOf, areaSide, numberSide}
 use Rattle.exact_high_angle.specs.Accuracy.{LiesInBracket}
 use Rattle.exact_high_angle.proofs.FifthPowers.{fifth-pos}
-use Rattle.exact_high_angle.proofs.Energy.{floor-low, ceiling-high, floor-least, ceiling-most, energy-pos, energy-den-pos, energy-is}
+use Rattle.exact_high_angle.proofs.Energy.{floor-low, ceiling-high, floor-least, ceiling-most, energy-pos, energy-is}
 use Rattle.exact_high_angle.proofs.Between.{thousandths, area-low, area-high, circle-pos, root-low, root-high}
 
 -- what holds in each of the three cases of the energy holds of the factor
@@ -106,5 +107,5 @@ module _ (e : Fraction) (n d : ℕ) (pos : 0 < e .den) (d-pos : 0 < d) (same : e
 pub lies-in : (w m : ℕ) → LiesInBracket (exactFactor w m) (circleOf w) (acceptedHighAngle w m .area)
 unfolding acceptedHighAngle acceptedWith areaOf factorOf joulesOf
 lies-in w m =
-    within (exactEnergy w m) (energyNum m) (energyDen (frontalArea w)) (energy-pos w m) (energy-den-pos w m) (energy-is w m) w _ _
+    within (exactEnergy w m) (energyNum m) (energyDen (frontalArea w)) (energy-pos w m) (energy-den-pos w) (energy-is w m) w _ _
     (area-low _ _ w (down-low _ areaDen)) (area-high _ _ w (up-high _ areaDen (lit< tt)))

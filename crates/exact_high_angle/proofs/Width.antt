@@ -16,8 +16,8 @@ unfolding divUp
 width-at f g x k h = omega (arith, mul-le-mul-right x h, mul-le-mul-right x k)
 
 -- what is no wider than the sharpest is no wider than one part in 500
-pub wider : (area : Bracket) → NoWiderThanOnePartIn sharpestParts area → NoWiderThanOnePartIn 500 area
-wider area h = omega arith
+pub no-wider-than-one-in-500 : (area : Bracket) → NoWiderThanOnePartIn sharpestParts area → NoWiderThanOnePartIn 500 area
+no-wider-than-one-in-500 area h = omega arith
 
 -- two limits lie ten times apart, and the bracket is narrower than that
 pub meets-at-most-one : (area : Bracket) → NoWiderThanOnePartIn 500 area → MeetsAtMostOneLimit area

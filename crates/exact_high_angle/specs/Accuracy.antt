@@ -47,7 +47,17 @@ pub record SharpestWidth : Type 0 where
   pub accepted : highAngleOf 34164 159990 0 .refusal ≡ 0
   pub wider : NoWiderThanOnePartIn (sharpestParts + 1) (highAngleOf 34164 159990 0 .area) → ⊥
 
--- what the comparison by fifth powers means: where the root is a fraction, it is the comparison of the numbers themselves
-pub record ComparesAsNumbers (root circle : Fraction) (n : ℕ) : Type 0 where
-  pub at-least : AtLeast (rootOf (fifthPower root)) circle n ↔ AtLeast (number (times rootFactor root)) circle n
-  pub at-most : AtMost (rootOf (fifthPower root)) circle n ↔ AtMost (number (times rootFactor root)) circle n
+-- the fifth root of a number of kJ is a fraction
+pub record FifthRootIs (kJ root : Fraction) : Type 0 where
+  pub kJ-denominator-above-zero : 0 < kJ .den
+  pub root-denominator-above-zero : 0 < root .den
+  pub equal : kJ .num * fifthPower root .den ≡ fifthPower root .num * kJ .den
+
+-- what the comparison by fifth powers means: then it is the comparison of the numbers themselves
+pub record ComparesAsNumbers (kJ root circle : Fraction) (n : ℕ) : Type 0 where
+  pub at-least : AtLeast (rootOf kJ) circle n ↔ AtLeast (number (times rootFactor root)) circle n
+  pub at-most : AtMost (rootOf kJ) circle n ↔ AtMost (number (times rootFactor root)) circle n
+
+abbrev pub FifthPowersCompareNumbers : Type 0
+FifthPowersCompareNumbers =
+    (kJ root circle : Fraction) (n : ℕ) → FifthRootIs kJ root → 0 < circle .den → ComparesAsNumbers kJ root circle n

@@ -26,6 +26,9 @@ points =
     ∷ accepted 3385 28001 0 654000 (bracket 12000 12001) (bracket 2301 2302) (bracket 286842 286967) 2 0 2
     -- between 11,999 and 12,000 J, the factor from 2.3 to above the root
     ∷ accepted 34164 159990 0 21352500 (bracket 11999 12000) (bracket 2300 2302) (bracket 21820111 21839087) 4 0 4
+    -- up to 3,125,000 J, and from there on
+    ∷ accepted 1035 182766 0 107000 (bracket 3124999 3125000) (bracket 6999 7000) (bracket 146872 146894) 2 0 2
+    ∷ accepted 1039 183448 0 107800 (bracket 3125000 3125001) (bracket 7000 7000) (bracket 147613 147614) 2 0 2
     -- exactly 3,125,000 J, and one gram less and more
     ∷ accepted 2462 350000 0 392400 (bracket 3125000 3125000) (bracket 7000 7000) (bracket 515202 515203) 2 0 2
     ∷ accepted 2462 349999 0 392400 (bracket 3124982 3124983) (bracket 6999 7000) (bracket 515129 515203) 2 0 2

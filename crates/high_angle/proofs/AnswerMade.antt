@@ -14,6 +14,9 @@ use Rattle.high_angle.specs.HighAngle.{energyNum, energyDen, joulesOf, f
 use Rattle.high_angle.specs.PrivateBounds.{OneApart}
 use Rattle.high_angle.proofs.FactorLaws.{low-most, high-most}
 
+pub energy-den-pos : (w : ℕ) → 0 < energyDen (frontalArea w)
+energy-den-pos w = omega (arith, frontal-area-promise .least w)
+
 module _ (w m : ℕ) {frontal : ℕ} (a : frontal ≡ frontalArea w) where
   pub frontal-fits : (0 < frontal) × (frontal ≤ 25000000)
   frontal-fits = omega (arith, frontal-area-promise .least w, frontal-area-promise .most w)

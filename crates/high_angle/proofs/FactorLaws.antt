@@ -66,7 +66,7 @@ unfolding highFactor
 high-most j =
     by-joules (λ f. f ≤ factorAbove) (smallest factorAbove) j (λ _. lit≤ tt) (λ _. le-refl _) (λ h l. smallest-most (rootScale * j) factorAbove)
 
--- the next number's fifth power is more than the constant above: two numbers lie between the fifth roots of neighbouring joules at most
+-- the next number's fifth power is more than the constant above, so that at most one whole number lies between the roots of neighbouring joules
 next-power : (g : ℕ) → factorBelow + 1 ≤ g → g ^ 5 + rootScale ≤ (g + 1) ^ 5
 next-power g h = rw (product g, product (g + 1)) (step (mul-le-mul (mul-le-mul (mul-le-mul h h) h) h))
   where

@@ -17,6 +17,8 @@ use Rattle.frontal_area.proofs.PromisesHold.{frontal-area-promise, multirotor-r
 use Rattle.high_angle.specs.SafetyFactor.{rootTo, rootScale, factorAbove}
 use Rattle.high_angle.specs.HighAngle.{energyNum, energyDen, joulesOf, factorOf, areaNum, areaDen, areaOf, acceptedWith, acceptedHighAngle, refusedHighAngle, highAngleOf}
 use Rattle.high_angle.specs.Promises.{HighAnglePromise, AcceptedExactlyWhen, AcceptedRanges, RootsOfAllNumbers, AreaGrows, HighAngleLaws}
+use Rattle.high_angle.specs.PrivateBounds.{OneApart}
+use Rattle.high_angle.proofs.AnswerMade.{energy-den-pos, joules-fit}
 use Rattle.high_angle.proofs.RootLaws.{largest-low, largest-high, smallest-high, smallest-low, power-at-most}
 use Rattle.high_angle.proofs.FactorLaws.{scaled-most, low-least, high-most, factors-apart, factors-ordered, low-mono, high-mono}
 
@@ -36,12 +38,9 @@ accepted w m v =
     (λ e. none .0 (first .1 (exactly .0 e)), λ h. exactly .1 (first .0 (none .1 h)))
 
 module _ (w m : ℕ) where
-  joules-den-pos : 0 < energyDen (frontalArea w)
-  joules-den-pos = omega (arith, frontal-area-promise .least w)
-
-  accepted-joules-apart : (acceptedHighAngle w m .joules .low ≤ acceptedHighAngle w m .joules .high) × (acceptedHighAngle w m .joules .high ≤ acceptedHighAngle w m .joules .low + 1)
-  unfolding acceptedHighAngle acceptedWith joulesOf
-  accepted-joules-apart = rounded-apart (energyNum m) (energyDen (frontalArea w)) joules-den-pos
+  accepted-joules : OneApart (acceptedHighAngle w m .joules)
+  unfolding acceptedHighAngle acceptedWith
+  accepted-joules = joules-fit w m refl refl
 
   ordered : (f g x : ℕ) → f ≤ g → f * x / areaDen ≤ divUp (g * x) areaDen
   ordered f g x h =
@@ -58,8 +57,8 @@ module _ (w m : ℕ) where
   unfolding acceptedHighAngle acceptedWith areaOf factorOf
   accepted-ranges h =
       let j = joulesOf (frontalArea w) m in
-      let apart = accepted-joules-apart in
-      let factors = factors-ordered (j .low) (j .high) (apart .0) in
+      let joules = accepted-joules in
+      let factors = factors-ordered (j .low) (j .high) (joules .ordered) in
       let high = high-most (j .high) in
       let within = largest-area (fullWidth w) _ (omega arith) high in
       record {
@@ -68,11 +67,11 @@ module _ (w m : ℕ) where
         flag = flag-at-most-one _ _;
         frontal-area-least = frontal-area-promise .least w;
         frontal-area-most = frontal-area-promise .most w;
-        joules-ordered = apart .0;
-        joules-apart = apart .1;
+        joules-ordered = joules .ordered;
+        joules-apart = joules .apart;
         factor-least = low-least (j .low);
         factor-ordered = factors;
-        factor-apart = factors-apart (j .low) (j .high) (apart .0) (apart .1);
+        factor-apart = factors-apart (j .low) (j .high) (joules .ordered) (joules .apart);
         factor-most = high;
         area-ordered = ordered _ _ (157 * (fullWidth w * fullWidth w)) factors;
         area-most = within;
@@ -92,7 +91,7 @@ grows : (w m m′ : ℕ) → m ≤ m′ → AreaGrows w m m′
 unfolding acceptedHighAngle acceptedWith areaOf factorOf joulesOf
 grows w m m′ h =
     let energy : energyNum m ≤ energyNum m′ = mul-le-mul-right 981 (mul-le-mul h h) in
-    let pos = joules-den-pos w m in
+    let pos = energy-den-pos w in
     record {
       low = down-mono _ _ areaDen (lit< tt) (mul-le-mul-right _ (low-mono _ _ (down-mono _ _ (energyDen (frontalArea w)) pos energy)));
       high = up-mono _ _ areaDen (lit< tt) (mul-le-mul-right _ (high-mono _ _ (up-mono _ _ (energyDen (frontalArea w)) pos energy)));

@@ -3,7 +3,7 @@ use mathlib.Core.Path.{_≡_, refl}
 use mathlib.Core.Bool.{Bool, true, false, cond}
 use mathlib.Core.Logic.{⊎-elim}
 use Prim.Native.Nat.{ℕ, zero, suc, _+_, _*_, _^_, _≤_, _<_}
-use native.Mathlib.Nat.{pow-le-pow-left, pow-lt-pow-left, pow-suc, pow-zero, one-mul, le-of-suc-le-suc, le-antisymm, le-trans, mul-le-mul}
+use native.Mathlib.Nat.{pow-le-pow-left, pow-lt-pow-left, pow-suc, pow-zero, one-mul, le-of-suc-le-suc, le-trans, mul-le-mul}
 use native.Mathlib.Omega.{arith}
 use lib.Dec.{leb, ltb}
 use borrow.Author.Tests.{leb-true, leb-false, ltb-true, ltb-false}
@@ -84,11 +84,6 @@ module _ (x : ℕ) where
       by-test : (t : Bool) → ltb (n ^ 5) x ≡ t → smallest n x ≤ k → cond t (suc n) (smallest n x) ≤ k
       by-test true e rest = power-below n k (omega (arith, ltb-true (n ^ 5) x e))
       by-test false e rest = rest
-
-  -- the number whose fifth power is at most x, with the next one's above x, is the largest
-  pub largest-is : (n a : ℕ) → a ≤ n → a ^ 5 ≤ x → x < (a + 1) ^ 5 → a ≡ largest n x
-  largest-is n a h l u =
-      le-antisymm (largest-high n a h l) (omega (arith, power-below (largest n x) (a + 1) (omega (arith, largest-low n))))
 
   -- a number whose fifth power is below x is below the smallest
   pub smallest-above : (n a : ℕ) → x ≤ n ^ 5 → a ^ 5 < x → a < smallest n x

@@ -9,8 +9,8 @@ use Rattle.high_angle.specs.declared.HighAngle.{HighAngle}
 use Rattle.high_angle.specs.SafetyFactor.{largest, smallest, rootTo, rootScale, factorBelow, factorAbove}
 use Rattle.high_angle.specs.HighAngle.{acceptedHighAngle, refusedHighAngle, highAngleOf}
 
--- each refusal exactly when its test is the first that holds; it is 0 or one of 1, 2, 3 and 16, so that "refusal 4 never occurs here"; an accepted answer is
--- the dimension's and the mass's, and a refused one is all zeros
+-- each refusal exactly when its test is the first that holds; it is 0 or one of 1, 2, 3 and 16; an accepted answer is the dimension's and the mass's, and a
+-- refused one is all zeros
 abbrev pub HighAnglePromise : ℕ → ℕ → ℕ → Type 0
 HighAnglePromise w m v =
     AnswerPromise (λ (a : HighAngle). a .refusal) (multirotorTests w m v) (acceptedHighAngle w m) refusedHighAngle (highAngleOf w m v)

@@ -48,7 +48,7 @@ fn roots(joules: Bracket) -> Bracket
     Bracket { low, high }
 }
 
-// Each end is chosen by its own joules. Where they lie on both sides of 3,125,000 J both factors are 7, since the root is 7 there.
+// Each end is chosen by its own joules. From 3,125,000 J on both factors are 7: the root is 7 there itself.
 pub(crate) fn factor(joules: Bracket) -> Bracket
     requires { ⌜ OneApart joules ⌝ }
     ensures { λ r. ⌜ r ≡ factorOf joules ⌝ }

@@ -16,8 +16,8 @@ fn fifth(f: u64) -> u64
 // bend that is taken off by the end in 2²⁰ths.
 struct Arc(u64, u64, u64);
 
-// The parabola through the factor at the three Chebyshev nodes of a quarter octave. The quarters of 12,000 to 3,125,000 J are 0 to 35, the
-// highest first by octaves.
+// The parabola through the factor at the three Chebyshev nodes of a quarter octave. Octaves come from the highest down, with their quarters
+// upward; 2, 3 and 32 hold none of 12,000 to 3,125,000 J, and 35 is the last.
 fn arc_over(quarter: u32) -> Arc
     ensures { λ r. ⌜ ArcFits r ⌝ }
 {
@@ -66,7 +66,7 @@ fn on_arc(arc: Arc, up: u64) -> u64
     (arc.0 + up * (arc.1 - (up * arc.2 >> 29))) >> 49
 }
 
-// A guess at the factor, of which nothing but its range is proved: right for 97 of 100 joules from 12,000 to 3,125,000, and else one off.
+// A guess at the factor, of which nothing but its range is proved: right for 96 of 100 joules from 12,000 to 3,125,000, and else one off.
 pub(crate) fn guess(joules: u32) -> u64
     ensures { λ r. ⌜ r ≤ baseMax ⌝ }
 {
