@@ -26,8 +26,9 @@
 //!
 //! [`assess`] answers numbers for a map in memory. [`case`] reads a case text and prints a frame; [`read_case`] and [`write_frame`]
 //! are its two ends. [`sheet`], [`footprint`], [`intrinsic_class`] and [`final_class`] are the steps of an assessment.
-//! [`high_angle`] is the critical area by the EASA guideline's other model, for rotorcraft and multirotors that strike at more than 60 degrees; no
-//! assessment takes it by itself. `include/nuggetbay.h` says the same for C, function by function.
+//! [`high_angle`] is the critical area by the EASA guideline's other model, for rotorcraft and multirotors that strike at
+//! more than 60 degrees; no assessment takes it by itself. `include/nuggetbay.h` says the same for C, function by
+//! function.
 
 #![deny(missing_docs)]
 #![warn(clippy::missing_errors_doc, clippy::undocumented_unsafe_blocks)]
