@@ -119,8 +119,7 @@ static PARABOLAS: [(u64, u64, u64); 64] = {
         // the three digits are 4 to 7, so that the zeros are one less than a fourth of the place
         let eighth = 1 << (29 - place / 4);
         let start = (place % 4 + 4) * 2 * eighth;
-        let (first, middle, last) =
-            (fine_factor(start), fine_factor(start + eighth), fine_factor(start + 2 * eighth));
+        let (first, middle, last) = (fine_factor(start), fine_factor(start + eighth), fine_factor(start + 2 * eighth));
         parabolas[place as usize % 64] = (first << 29, 4 * middle - 3 * first - last, 2 * (2 * middle - first - last));
         place += 1;
     }

@@ -3,6 +3,14 @@
 use std::fs::File;
 use std::path::PathBuf;
 use std::process::{Command, Output, Stdio};
+use std::sync::{Mutex, MutexGuard, PoisonError};
+
+/// Held by each test, so that no other one starts a program meanwhile: until that program runs it has a copy of every open file, and a
+/// closed pipe would still have a reader.
+fn alone() -> MutexGuard<'static, ()> {
+    static TURN: Mutex<()> = Mutex::new(());
+    TURN.lock().unwrap_or_else(PoisonError::into_inner)
+}
 
 /// An example. `cargo test` builds it beside this test; with `--test` it has to be there already.
 fn example_called(name: &str) -> Command {
@@ -32,6 +40,7 @@ fn ended(command: &mut Command) -> (Option<i32>, String) {
 
 #[test]
 fn answers_end_with_0_or_1() {
+    let _alone = alone();
     assert_eq!(ended(example().arg(stored("farmhouses.case"))), (Some(0), String::new()));
     assert_eq!(ended(example().arg(stored("refused.case"))), (Some(1), String::new()));
     assert_eq!(ended(example().arg(stored("farmhouses.frame"))), (Some(1), String::new()));
@@ -39,6 +48,7 @@ fn answers_end_with_0_or_1() {
 
 #[test]
 fn no_file_ends_with_2() {
+    let _alone = alone();
     assert_eq!(ended(&mut example()), (Some(2), "usage: case FILE\n".to_string()));
     let (status, said) = ended(example().arg(stored("no.case")));
     assert_eq!((status, said.lines().count()), (Some(2), 1));
@@ -47,6 +57,7 @@ fn no_file_ends_with_2() {
 
 #[test]
 fn aircraft_end_with_0_or_1() {
+    let _alone = alone();
     assert_eq!(ended(&mut high_angle(&["1100", "15000", "2500"])), (Some(0), String::new()));
     for refused in [["999", "15000", "2500"], ["1100", "49", "2500"], ["4294967295", "15000", "0"]] {
         assert_eq!(ended(&mut high_angle(&refused)), (Some(1), String::new()));
@@ -55,6 +66,7 @@ fn aircraft_end_with_0_or_1() {
 
 #[test]
 fn no_aircraft_ends_with_2() {
+    let _alone = alone();
     let usage = "usage: high_angle DIMENSION MASS SPEED, in mm, g and cm/s\n".to_string();
     for arguments in [&[][..], &["1100", "15000"], &["1100", "15000", "2500", "2500"]] {
         assert_eq!(ended(&mut high_angle(arguments)), (Some(2), usage.clone()));
@@ -83,6 +95,7 @@ fn full_disk() -> Stdio {
 
 #[test]
 fn words_that_cannot_be_written_end_with_2() {
+    let _alone = alone();
     for output in [closed_pipe, full_disk] {
         for case in ["farmhouses.case", "refused.case"] {
             let (status, said) = ended(example().arg(stored(case)).stdout(output()));
