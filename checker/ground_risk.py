@@ -5,12 +5,13 @@ be read beside the papers, not to be fast. Quoted sentences are document 01's,
 or those of the item of document 02 that is named before them.
 """
 
+from bisect import bisect_left, bisect_right
 from collections import namedtuple
 from fractions import Fraction
 from typing import NamedTuple
 
-# Every refusal, in the words of document 01's lists. Document 02 item 1:
-# "refusal 15 now speaks of 43 bytes."
+# Every refusal, in the words of document 01's lists, from 16 on of document
+# 02's items. Document 02 item 1: "refusal 15 now speaks of 43 bytes."
 REFUSALS = {
     1: "dimension outside its range",
     2: "mass",
@@ -27,6 +28,7 @@ REFUSALS = {
     13: "length other than 33,959",
     14: "a byte that isn't a digit or line end in its place",
     15: "a buffer shorter than 43 bytes, for refused cases too",
+    16: "after 1 to 3, the dimension is outside 1,000 to 40,000 mm",
 }
 
 # ---------------------------------------------------------------------------
@@ -50,6 +52,9 @@ SIZE_PAIRS = ((1_000, 2_500), (3_000, 3_500), (8_000, 7_500), (20_000, 12_000), 
 #  decimals are the definition)."
 TAN = Fraction("0.7002075382")
 COS = Fraction("0.8191520443")
+# "3.14 × D²" and "9.81", of both models
+PI = Fraction("3.14")
+GRAVITY = Fraction("9.81")
 
 
 def within(value, limits):
@@ -86,7 +91,7 @@ def exact_slide(m, v):
     speed = Fraction(v, 100)
     mass = Fraction(m, 1000)
     slide = ((Fraction("0.65") * COS * speed) ** 2 - 580 / mass) / (
-        2 * Fraction("0.75") * Fraction("9.81"))
+        2 * Fraction("0.75") * GRAVITY)
     return max(slide, Fraction(0))
 
 
@@ -99,14 +104,23 @@ def area_formula(w):
     return WHOLE if w > 8_000 else SIX_TENTHS if w > 1_000 else GLIDE_ONLY
 
 
+def exact_d(w):
+    # "Let D be 0.3 + half the dimension, in metres."
+    return Fraction("0.3") + Fraction(w, 1000) / 2
+
+
+def exact_circle(w):
+    # "3.14 × D²"
+    return PI * exact_d(w) ** 2
+
+
 def exact_area(w, m, v):
     """The exact area in square centimetres; None outside the ranges."""
     if aircraft_refusal(w, m, v) != 0:
         return None
-    # "Let D be 0.3 + half the dimension, in metres."
-    d = Fraction("0.3") + Fraction(w, 1000) / 2
+    d = exact_d(w)
     # "2 × D × (glide + slide) + 3.14 × D²."
-    whole = 2 * d * (exact_glide() + exact_slide(m, v)) + Fraction("3.14") * d ** 2
+    whole = 2 * d * (exact_glide() + exact_slide(m, v)) + exact_circle(w)
     formula = area_formula(w)
     if formula == WHOLE:
         area = whole
@@ -115,15 +129,16 @@ def exact_area(w, m, v):
         area = Fraction(6, 10) * whole
     else:
         # "2 × D × glide + half of 3.14 × D². No slide."
-        area = 2 * d * exact_glide() + Fraction("3.14") * d ** 2 / 2
+        area = 2 * d * exact_glide() + exact_circle(w) / 2
     # "10,000 times the one above, never rounded."
     return 10_000 * area
 
 
-def first_column(area):
-    # "the first whose area limit is at least" this area; 0 where none is.
+def first_column(area, power=1):
+    # "the first whose area limit is at least" this area; 0 where none is. Of
+    # an area that stands as a power, the limits' powers are compared.
     columns = [column for column in (1, 2, 3, 4, 5)
-               if AREA_LIMITS[column - 1] >= area]
+               if AREA_LIMITS[column - 1] ** power >= area]
     return columns[0] if columns else 0
 
 
@@ -221,6 +236,15 @@ def area_line(w, glide, t):
     return Line(round_down(low), round_up(high))
 
 
+def column_and_flag(area):
+    # "The column is the first whose area limit is at least the high area"
+    column = first_column(area.high)
+    # "The flag is 1 when the column isn't the first and the low area is at
+    #  most the limit before it, otherwise 0."
+    flag = 1 if column != 1 and area.low <= AREA_LIMITS[column - 2] else 0
+    return column, flag
+
+
 def sheet(w, m, v):
     refusal = aircraft_refusal(w, m, v)
     if refusal != 0:
@@ -235,12 +259,148 @@ def sheet(w, m, v):
     # "4 high area above 650,000,000."
     if area.high > AREA_LIMITS[-1]:
         return refused_sheet(4)
-    # "The column is the first whose area limit is at least the high area"
-    column = first_column(area.high)
-    # "The flag is 1 when the column isn't the first and the low area is at
-    #  most the limit before it, otherwise 0."
-    flag = 1 if column != 1 and area.low <= AREA_LIMITS[column - 2] else 0
-    return Sheet(0, glide, run, saving, slide, t, area, column, flag, size_column(w, v))
+    return Sheet(0, glide, run, saving, slide, t, area, *column_and_flag(area), size_column(w, v))
+
+
+# ---------------------------------------------------------------------------
+# The high impact angle area for multirotors: document 02 item 2, quoted here
+# ---------------------------------------------------------------------------
+
+# "The frontal area in square millimetres runs in straight lines between
+#  100,000 at 1,000 mm, 500,000 at 3,000, 2,500,000 at 8,000, 12,500,000 at
+#  20,000 and 25,000,000 at 40,000, rounded down."
+FRONTAL_POINTS = ((1_000, 100_000), (3_000, 500_000), (8_000, 2_500_000),
+                  (20_000, 12_500_000), (40_000, 25_000_000))
+# "16 when, after 1 to 3, the dimension is outside 1,000 to 40,000 mm."
+FRONTAL_RANGE = (1_000, 40_000)
+# "1.225 × 0.8 × frontal area": the air density, Annex F's, and the drag coefficient, 002's
+AIR_DENSITY = Fraction("1.225")
+DRAG_COEFFICIENT = Fraction("0.8")
+# "The factor is 2.3 below 12,000 J and 7 above 3,125,000 J. Between them it is
+#  1.4 times the fifth root of the energy in kJ."
+ROOT_FROM, ROOT_TO = 12_000, 3_125_000
+# of every whole number up to 7,000, the largest factor in thousandths
+FIFTH_POWERS = [number ** 5 for number in range(7_001)]
+
+
+def multirotor_refusal(w, m, v):
+    # "16 when, after 1 to 3, the dimension is outside 1,000 to 40,000 mm."
+    refusal = aircraft_refusal(w, m, v)
+    if refusal == 0 and not within(w, FRONTAL_RANGE):
+        return 16
+    return refusal
+
+
+def frontal_area(w):
+    """In square millimetres."""
+    for (start, first), (end, last) in zip(FRONTAL_POINTS, FRONTAL_POINTS[1:]):
+        if within(w, (start, end)):
+            return round_down(first + Fraction((last - first) * (w - start), end - start))
+
+
+def exact_energy(w, m):
+    # "The energy at terminal speed is mass² × 9.81 / (1.225 × 0.8 × frontal
+    #  area), in kg and square metres"
+    mass = Fraction(m, 1000)
+    frontal = Fraction(frontal_area(w), 10 ** 6)
+    return mass ** 2 * GRAVITY / (AIR_DENSITY * DRAG_COEFFICIENT * frontal)
+
+
+def joules_line(energy):
+    # "keep it in whole joules, down and up."
+    return Line(round_down(energy), round_up(energy))
+
+
+def root_down(power):
+    # "the largest whole number whose fifth power is at most" this
+    return bisect_right(FIFTH_POWERS, power) - 1
+
+
+def root_up(power):
+    # "the smallest whose fifth power is at least" this
+    return bisect_left(FIFTH_POWERS, power)
+
+
+def factor_of(joules, root):
+    if joules < ROOT_FROM:
+        return 2_300
+    if joules > ROOT_TO:
+        return 7_000
+    # "5,378,240,000,000 × the low joules"; "that constant × the high joules"
+    return root(5_378_240_000_000 * joules)
+
+
+def factor_line(joules):
+    # "In thousandths"; "Each of the two is chosen by its own joules alone, 2.3
+    #  and 7 included."
+    return Line(factor_of(joules.low, root_down), factor_of(joules.high, root_up))
+
+
+def high_angle_area_line(w, factor):
+    # "the area is the safety factor × 3.14 × D²"; "Area low and high follow in
+    #  square centimetres, rounded outward."
+    for_a_thousandth = 10_000 * exact_circle(w) / 1000
+    return Line(round_down(factor.low * for_a_thousandth), round_up(factor.high * for_a_thousandth))
+
+
+class HighAngle(NamedTuple):
+    # "The answer holds frontal area, joules, factor and area, the last three
+    #  low and high, with column and flag as on the old sheet"
+    refusal: int
+    column: int
+    flag: int
+    frontal_area: int
+    joules: Line
+    factor: Line
+    area: Line
+
+
+def refused_high_angle(refusal):
+    # as a refused sheet, all zeros
+    return HighAngle(refusal, 0, 0, 0, Line(0, 0), Line(0, 0), Line(0, 0))
+
+
+def high_angle(w, m, v):
+    refusal = multirotor_refusal(w, m, v)
+    if refusal != 0:
+        return refused_high_angle(refusal)
+    joules = joules_line(exact_energy(w, m))
+    factor = factor_line(joules)
+    area = high_angle_area_line(w, factor)
+    # "refusal 4 never occurs here": no area is above the last limit
+    return HighAngle(0, *column_and_flag(area), frontal_area(w), joules, factor, area)
+
+
+# The accuracy rule: "the exact area, with the exact energy from that frontal
+# area, lies in the bracket". "Where the fifth root isn't a fraction, "lies in"
+# compares fifth powers": the exact area stands as its fifth power, which says
+# the same where the root is a fraction.
+
+def exact_factor_power(energy):
+    """The fifth power of the exact factor."""
+    if energy < ROOT_FROM:
+        return Fraction("2.3") ** 5
+    if energy > ROOT_TO:
+        return Fraction(7) ** 5
+    return Fraction("1.4") ** 5 * energy / 1000
+
+
+def exact_high_angle_power(w, m, v):
+    """The fifth power of the exact area in square centimetres; None where it is refused."""
+    if multirotor_refusal(w, m, v) != 0:
+        return None
+    return exact_factor_power(exact_energy(w, m)) * (10_000 * exact_circle(w)) ** 5
+
+
+def lies_in(power, area):
+    return area.low ** 5 <= power <= area.high ** 5
+
+
+def exact_high_angle_column(w, m, v):
+    # "The exact column is the first whose area limit is at least this fraction",
+    # by the same comparison
+    power = exact_high_angle_power(w, m, v)
+    return 0 if power is None else first_column(power, 5)
 
 
 # ---------------------------------------------------------------------------

@@ -33,6 +33,9 @@ Sheet = struct(
     "Sheet", ("glide", Bracket), ("run", Bracket), ("saving", Bracket), ("slide", Bracket), ("total", Bracket), ("area", Bracket),
     ("column", U8), ("flag", U8), ("size_column", U8))
 SheetAnswer = struct("SheetAnswer", ("refusal", U8), ("sheet", Sheet))
+HighAngle = struct(
+    "HighAngle", ("refusal", U8), ("column", U8), ("flag", U8), ("frontal_area", U64), ("joules", Bracket), ("factor", Bracket),
+    ("area", Bracket))
 Footprint = struct("Footprint", ("refusal", U8), ("row", U8), ("place", U32), ("people", U64), ("cells", U32))
 IntrinsicClass = struct("IntrinsicClass", ("refusal", U8), ("class", U8))
 FinalClass = struct("FinalClass", ("refusal", U8), ("class", I8))
@@ -121,6 +124,7 @@ LENT = written(counts=U32, marks=U64)
 
 OPERATIONS = {
     "sheet": Operation("nb_sheet", AIRCRAFT, SheetAnswer, lambda *a: outcome(g.sheet(*a))),
+    "high angle": Operation("nb_high_angle", AIRCRAFT, HighAngle, lambda *a: outcome(g.high_angle(*a))),
     "footprint": Operation("nb_footprint", (*MAP, *numbers(cell_area=U32)), Footprint, lambda *a: outcome(g.footprint(*a))),
     "intrinsic class": Operation("nb_intrinsic_class", numbers(column=U8, row=U8, controlled=U8), IntrinsicClass,
                                  lambda *a: outcome(g.intrinsic_class(*a))),

@@ -73,6 +73,7 @@ class SharesTest(unittest.TestCase):
             self.assertEqual(tuple(parameter.name for parameter in lent), g.Lent._fields)
         self.assertEqual(tuple(name for name, _ in library.CaseHead._fields_), g.Fields._fields)
         self.assertEqual(tuple(name for name, _ in library.FrameFields._fields_), g.Frame._fields)
+        self.assertEqual(tuple(name for name, _ in library.HighAngle._fields_), g.HighAngle._fields)
         self.assertEqual(["t" if name == "total" else name for name, _ in library.Sheet._fields_], list(g.Sheet._fields[1:]))
         self.assertEqual(set(compare.BUFFERS), set(g.Lent._fields))
 
@@ -136,13 +137,39 @@ class CallsTest(unittest.TestCase):
                 for off in (-1, 0, 1):
                     self.assertGreater(edges[dimension, name, off], 10, (dimension, name, off))
 
+    def test_multirotors_are_drawn_at_every_edge(self):
+        answers, points, joules, flagged = Counter(), Counter(), Counter(), Counter()
+        for n in range(4_000):
+            rng = random.Random(n)
+            values = compare.drawn(rng, ("dimension", "mass", "speed"))
+            compare.multirotor(rng, values)
+            answer = g.high_angle(*values.values())
+            answers[answer.refusal, answer.column] += 1
+            points[values["dimension"]] += answer.refusal in (0, 16)
+            joules[answer.joules] += 1
+            if answer.flag == 1:
+                flagged[answer.column, g.exact_high_angle_column(*values.values())] += 1
+        self.assertEqual(set(answers), {*((refusal, 0) for refusal in (1, 2, 3, 16)), *((0, column) for column in (1, 2, 3, 4, 5))})
+        self.assertGreater(sum(number for (refusal, _), number in answers.items() if refusal == 0), 2_500)
+        self.assertGreater(min(answers.values()), 20)
+        for w, _ in g.FRONTAL_POINTS:
+            for off in (-1, 0, 1):
+                self.assertGreater(points[w + off], 20, w + off)
+        for whole in (12_000, 3_125_000):
+            for low in (whole - 1, whole):
+                self.assertGreater(joules[low, low + 1], 20, low)
+        for column in (2, 3, 4, 5):
+            for exact in (column, column - 1):
+                self.assertGreater(flagged[column, exact], 20, (column, exact))
+
     def test_a_text_shows_the_call(self):
         values = {"dimension": 2_000, "mass": 3_000, "speed": 4_000}
-        reading = g.read_case(compare.as_text(values), g.zeros())
+        reading = g.read_case(compare.as_text("sheet", values), g.zeros())
         self.assertEqual((reading.refusal, reading.fields[:3]), (0, (2_000, 3_000, 4_000)))
-        self.assertIsNone(compare.as_text({"column": 1, "row": 2, "controlled": 0}))
-        self.assertIsNone(compare.as_text({"counts": [1], "marks": [0] * g.ROWS, "cell_area": 100}))
-        self.assertEqual(compare.as_text({"text": b"any"}), b"any")
+        self.assertIsNone(compare.as_text("high angle", values))
+        self.assertIsNone(compare.as_text("intrinsic class", {"column": 1, "row": 2, "controlled": 0}))
+        self.assertIsNone(compare.as_text("footprint", {"counts": [1], "marks": [0] * g.ROWS, "cell_area": 100}))
+        self.assertEqual(compare.as_text("case", {"text": b"any"}), b"any")
 
 
 class ProgramTest(unittest.TestCase):

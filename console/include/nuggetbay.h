@@ -31,7 +31,7 @@ extern "C" {
  * is new. A library serves a program that was built with this header where its major number is the same and nb_version() is at
  * least NB_VERSION. */
 #define NB_VERSION_MAJOR 3
-#define NB_VERSION_MINOR 0
+#define NB_VERSION_MINOR 1
 #define NB_VERSION_PATCH 0
 #define NB_VERSION (NB_VERSION_MAJOR * 10000 + NB_VERSION_MINOR * 100 + NB_VERSION_PATCH)
 
@@ -46,6 +46,7 @@ uint32_t nb_version(void);
  * statically, or runs with LD_BIND_NOW=1. Elsewhere the first call binds a name, which took some 3,100 bytes more where it was
  * tried. */
 #define NB_SHEET_STACK 64u
+#define NB_HIGH_ANGLE_STACK 40u
 #define NB_FOOTPRINT_STACK 448u
 #define NB_INTRINSIC_CLASS_STACK 136u
 #define NB_FINAL_CLASS_STACK 176u
@@ -100,7 +101,8 @@ uint32_t nb_version(void);
     R(12, NB_FINAL_CLASS, "final class too high: at most 7 is allowed") \
     R(13, NB_TEXT_SIZE, "wrong text length: 33,959 bytes are needed") \
     R(14, NB_TEXT_BYTE, "wrong byte in the text: lower-case hexadecimal digits, and byte 10 at the end of each line, are allowed") \
-    R(15, NB_FRAME_SIZE, "frame buffer too short: at least 43 bytes are needed")
+    R(15, NB_FRAME_SIZE, "frame buffer too short: at least 43 bytes are needed") \
+    R(16, NB_FRONTAL_DIMENSION, "no frontal area for this dimension: 1,000 to 40,000 mm is allowed")
 
 #define NB_REFUSAL_NUMBER(number, name, message) name = number,
 enum nb_refusal { NB_REFUSALS(NB_REFUSAL_NUMBER) NB_ACCEPTED = 0 };
@@ -111,7 +113,7 @@ const char *nb_refusal_message(uint8_t refusal);
 
 /* ---- The aircraft and its area ---- */
 
-/* A line of the sheet: a number at most the exact one, and a number at least the exact one. */
+/* A figure: a number at most the exact one, and a number at least the exact one. */
 typedef struct {
     uint64_t low;
     uint64_t high;
@@ -144,6 +146,34 @@ typedef struct {
  * 25,000,000) and maximum cruise speed in cm/s (0 to 40,000).
  * Refusals: 1, 2, 3, 4. */
 nb_sheet_answer_t nb_sheet(uint32_t dimension, uint32_t mass, uint32_t speed);
+
+/* ---- The high impact angle model ---- */
+
+/* The critical area by the high impact angle model, chapter 5 of the EASA guideline: a circle of radius D = 0.3 m + half the
+ * dimension, 3.14 x D x D, times a safety factor that comes from the energy of a fall at terminal speed.
+ *
+ * The guideline has this model for rotorcraft and multirotors only, not for hybrids with wings, and only where the aircraft
+ * strikes the ground at an angle above 60 degrees, falling from the lowest operating height at the greatest speed. No function
+ * here judges either; where one of them doesn't hold, the area is nb_sheet's. */
+typedef struct {
+    uint8_t refusal;
+    uint8_t column;        /* 1 to 5, from the high area, as on the sheet */
+    uint8_t flag;          /* 1 where the low area lies within the column before, as on the sheet; else 0 */
+    uint64_t frontal_area; /* square millimetres: in straight lines between 100,000 at 1,000 mm, 500,000 at 3,000, 2,500,000 at
+                              8,000, 12,500,000 at 20,000 and 25,000,000 at 40,000, rounded down */
+    nb_bracket_t joules;   /* the energy at terminal speed, joules, in air of 1.225 kg per cubic metre with a drag coefficient of 0.8 */
+    nb_bracket_t factor;   /* the safety factor, thousandths: 2,300 below 12,000 J, 7,000 above 3,125,000 J, between them 1,400
+                              times the fifth root of the energy in kJ; each by its own joules */
+    nb_bracket_t area;     /* the critical area, square centimetres */
+} nb_high_angle_t;         /* all zeros but the refusal where refused */
+
+/* The high impact angle model of an aircraft: its maximum characteristic dimension in mm (1,000 to 40,000), maximum take-off mass
+ * in g (50 to 25,000,000) and maximum cruise speed in cm/s (0 to 40,000), which is judged for its range only: no figure depends on
+ * it. The exact area, with the exact energy from this frontal area, lies in the bracket, which is no wider than one part in 500 of
+ * the high area plus 2 square centimetres.
+ * Refusals: 1, 2, 3 as nb_sheet (1 for a dimension outside 50 to 100,000), then 16. Refusal 4 never occurs: no area of this model
+ * is above the last limit. */
+nb_high_angle_t nb_high_angle(uint32_t dimension, uint32_t mass, uint32_t speed);
 
 /* ---- The footprint on the map ---- */
 
@@ -264,6 +294,7 @@ uint8_t nb_case(const uint8_t *text, size_t text_len, uint32_t *counts, size_t c
 NB_ASSERT(sizeof(nb_bracket_t) == 16, bracket_size);
 NB_ASSERT(sizeof(nb_sheet_t) == 104, sheet_size);
 NB_ASSERT(sizeof(nb_sheet_answer_t) == 112, sheet_answer_size);
+NB_ASSERT(sizeof(nb_high_angle_t) == 64, high_angle_size);
 NB_ASSERT(sizeof(nb_footprint_t) == 24, footprint_size);
 NB_ASSERT(sizeof(nb_intrinsic_class_t) == 2, intrinsic_class_size);
 NB_ASSERT(sizeof(nb_final_class_t) == 2, final_class_size);

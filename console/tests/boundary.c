@@ -122,6 +122,8 @@ static void take(void *into, size_t length) {
     PART(bracket, glide) PART(bracket, run) PART(bracket, saving) PART(bracket, slide) PART(bracket, total) PART(bracket, area) \
     NUMBER(column) NUMBER(flag) NUMBER(size_column)
 #define SHEET_ANSWER(NUMBER, PART) NUMBER(refusal) PART(sheet, sheet)
+#define HIGH_ANGLE(NUMBER, PART) \
+    NUMBER(refusal) NUMBER(column) NUMBER(flag) NUMBER(frontal_area) PART(bracket, joules) PART(bracket, factor) PART(bracket, area)
 #define FOOTPRINT(NUMBER, PART) NUMBER(refusal) NUMBER(row) NUMBER(place) NUMBER(people) NUMBER(cells)
 #define INTRINSIC_CLASS(NUMBER, PART) NUMBER(refusal) NUMBER(class_number)
 #define FINAL_CLASS(NUMBER, PART) NUMBER(refusal) NUMBER(class_number)
@@ -162,6 +164,7 @@ static void same(const char *field, uint64_t got, uint64_t wanted) {
 STRUCT(bracket, BRACKET)
 STRUCT(sheet, SHEET)
 STRUCT(sheet_answer, SHEET_ANSWER)
+STRUCT(high_angle, HIGH_ANGLE)
 STRUCT(footprint, FOOTPRINT)
 STRUCT(intrinsic_class, INTRINSIC_CLASS)
 STRUCT(final_class, FINAL_CLASS)
@@ -290,6 +293,16 @@ static void call_sheet(void) {
     same_sheet_answer(&got, &wanted);
 }
 
+static void call_high_angle(void) {
+    TAKE(uint32_t, dimension);
+    TAKE(uint32_t, mass);
+    TAKE(uint32_t, speed);
+    nb_high_angle_t wanted = take_high_angle();
+    starts("nb_high_angle", wanted.refusal);
+    nb_high_angle_t got = nb_high_angle(dimension, mass, speed);
+    same_high_angle(&got, &wanted);
+}
+
 static void call_intrinsic_class(void) {
     TAKE(uint8_t, column);
     TAKE(uint8_t, row);
@@ -342,6 +355,7 @@ static void make_all_calls(int heap) {
         case 'F': call_footprint(heap); break;
         case 'A': call_assessment(heap); break;
         case 'S': call_sheet(); break;
+        case 'H': call_high_angle(); break;
         case 'I': call_intrinsic_class(); break;
         case 'K': call_final_class(); break;
         case 'W': call_frame(heap); break;

@@ -14,6 +14,7 @@ comes what the checker says:
   F  footprint: the answer
   A  assessment: the answer
   S  sheet: the answer
+  H  high impact angle area: the answer
   I  intrinsic class: the answer
   K  final class: the answer
   W  frame: u8 answer, u8 bytes written, the bytes
@@ -31,14 +32,16 @@ from struct import pack
 sys.path.insert(0, str(Path(__file__).resolve().parents[2] / "checker"))
 
 import ground_risk as g
+import high_angle_aircraft
+import high_angle_points
 import random_cases as r
 from library import LENT, OPERATIONS, flat
 
 # Every third of the random cases: some of each kind.
 CASES = range(0, r.CASES, 3)
 
-LETTERS = {"case": b"C", "reading": b"L", "footprint": b"F", "assessment": b"A", "sheet": b"S", "intrinsic class": b"I",
-           "final class": b"K", "frame": b"W"}
+LETTERS = {"case": b"C", "reading": b"L", "footprint": b"F", "assessment": b"A", "sheet": b"S", "high angle": b"H",
+           "intrinsic class": b"I", "final class": b"K", "frame": b"W"}
 
 
 def packed(kind, numbers):
@@ -102,6 +105,7 @@ def random_case(number):
             + case_record(text, lent, case.frame_length)
             + answered("reading", text, *lent)
             + answered("sheet", fields.dimension, fields.mass, fields.speed)
+            + answered("high angle", fields.dimension, fields.mass, fields.speed)
             + map_record(case.lent)
             + answered("footprint", *case.lent, fields.cell_area)
             + assessment_record(fields, case.lent))
@@ -170,6 +174,25 @@ def sizes():
     return b"".join(answered("sheet", *aircraft) for aircraft in product(dimensions, (lightest - 1, lightest, heaviest), speeds))
 
 
+def by_one(numbers):
+    """Each number and its neighbours, as far as they are numbers of 32 bits."""
+    return sorted({near for number in numbers for near in (number - 1, number, number + 1) if 0 <= near < 2 ** 32})
+
+
+def multirotors():
+    """High impact angle areas at every edge of every range and at the frontal area's points, each by one; and by one gram the
+    aircraft at the joints of the factor and at the area limits."""
+    largest = 2 ** 32 - 1
+    dimensions = by_one((0, largest, *g.DIMENSION_RANGE, *(dimension for dimension, _ in g.FRONTAL_POINTS)))
+    masses, speeds = (by_one((0, largest, *limits)) for limits in (g.MASS_RANGE, g.SPEED_RANGE))
+    edges = product(dimensions, masses, speeds)
+    close = [row[-2:] for table in (high_angle_aircraft.AT_JOINTS, high_angle_aircraft.FLAGGED, high_angle_aircraft.AT_LIMITS)
+             for row in table]
+    tuned = ((w, mass, speed) for w, m in close for mass in by_one((m,)) for speed in g.SPEED_RANGE)
+    worked = (point[:3] for point in high_angle_points.points())
+    return b"".join(answered("high angle", *aircraft) for aircraft in (*edges, *tuned, *worked))
+
+
 def classes():
     out = b""
     words = [sum(digits // 5 ** place % 5 * 16 ** place for place in range(4)) for digits in range(5 ** 4)]
@@ -204,7 +227,7 @@ def frames():
     return out
 
 
-PARTS = (accepted_lengths, damaged_lengths, refused_lengths, map_lengths, sizes, classes, frames)
+PARTS = (accepted_lengths, damaged_lengths, refused_lengths, map_lengths, sizes, multirotors, classes, frames)
 
 
 def run_part(number):

@@ -1,17 +1,23 @@
-/* A whole case that does one thing wrong, put before the library's own by the linker (--wrap=nb_case), to show that boundary.c
- * notices it. The environment's FAULT says which. */
+/* A whole case, and a high angle, that do one thing wrong, put before the library's own by the linker (--wrap), to show that
+ * boundary.c notices it. The environment's FAULT says which. */
 #include <nuggetbay.h>
 #include <stdlib.h>
 
 uint8_t __real_nb_case(const uint8_t *text, size_t text_len, uint32_t *counts, size_t counts_len, uint64_t *marks,
                        size_t marks_len, uint8_t *frame, size_t frame_len);
 
+nb_high_angle_t __real_nb_high_angle(uint32_t dimension, uint32_t mass, uint32_t speed);
+
 static volatile uint8_t seen;
+
+static char fault(void) {
+    const char *named = getenv("FAULT");
+    return named == NULL ? '-' : named[0];
+}
 
 uint8_t __wrap_nb_case(const uint8_t *text, size_t text_len, uint32_t *counts, size_t counts_len, uint64_t *marks,
                        size_t marks_len, uint8_t *frame, size_t frame_len) {
-    const char *fault = getenv("FAULT");
-    char which = fault == NULL ? '-' : fault[0];
+    char which = fault();
     if (which == 'u' && frame_len > 0 && frame[0] == 7) seen = 1; /* uninitialised content decides */
     uint8_t answer =
         __real_nb_case(text, text_len, counts, counts_len, marks, marks_len, frame, frame_len);
@@ -25,6 +31,17 @@ uint8_t __wrap_nb_case(const uint8_t *text, size_t text_len, uint32_t *counts, s
     case 'r': if (answer == NB_TEXT_BYTE) counts[0] = 0; break;                    /* stores under a refused reading */
     case 'n': answer ^= answer == NB_TEXT_SIZE; break;                             /* another refusal */
     case 'p': if (answer == 0) frame[NB_FRAME_LENGTH - 2] ^= 1; break;             /* another digit */
+    default: break;
+    }
+    return answer;
+}
+
+nb_high_angle_t __wrap_nb_high_angle(uint32_t dimension, uint32_t mass, uint32_t speed) {
+    nb_high_angle_t answer = __real_nb_high_angle(dimension, mass, speed);
+    switch (fault()) {
+    case 'j': if (answer.refusal == 0) answer.area.high++; break;                               /* another area */
+    case 'o': if (answer.refusal == NB_FRONTAL_DIMENSION) answer.refusal = NB_DIMENSION; break; /* another refusal */
+    case 'z': if (answer.refusal != 0) answer.frontal_area = dimension; break;                  /* a number under a refusal */
     default: break;
     }
     return answer;

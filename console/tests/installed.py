@@ -18,6 +18,7 @@ ROOT = Path(__file__).resolve().parents[2]
 sys.path.insert(0, str(ROOT / "console/tests"))
 
 import declarations as d      # noqa: E402
+import ground_risk as g       # noqa: E402
 
 # what runs here is no part of the make that may have started this
 for name in ("MAKEFLAGS", "MFLAGS", "MAKELEVEL"):
@@ -30,11 +31,29 @@ VERSION = d.version_of(HEADER)
 MAJOR = VERSION.split(".")[0]
 NUMBER = sum(int(part) * place for part, place in zip(VERSION.split("."), (10000, 100, 1)))
 FUNCTIONS = sorted([*d.read_header(HEADER).functions, "nb_version", "nb_refusal_message"])
+# Of the high impact angle model: accepted, with a flag, with a factor on both sides of a cut, the ends of the ranges, and refused.
+AIRCRAFT = ((1_100, 15_000, 2_500), (1_202, 16_782, 0), (1_006, 11_014, 1), (1_000, 50, 0), (40_000, 25_000_000, 40_000),
+            (49, 49, 40_001), (50, 49, 40_001), (50, 50, 40_001), (999, 50, 0), (40_001, 50, 0), (2 ** 32 - 1,) * 3)
+NOT_NUMBERS = ("", "x", "-1", "+1", " 1", "1 ", "1.0", "1e3", "0x10", str(2 ** 32), str(2 ** 64 + 1))
 
 
 def messages():
     said = dict(d.tables_of_header(HEADER).refusals) | {0: "not refused"}
     return [said.get(number, "no such refusal") for number in range(256)]
+
+
+def high_angle_words(*aircraft):
+    """What the checker says, as the example says it."""
+    a = g.high_angle(*aircraft)
+    if a.refusal != 0:
+        return f"refusal {a.refusal}: {messages()[a.refusal]}\n"
+    flagged = ", the exact one may be the column before" if a.flag else ""
+    return (f"frontal area: {a.frontal_area} square millimetres\n"
+            f"energy at terminal speed: {a.joules.low} to {a.joules.high} joules\n"
+            f"safety factor: {a.factor.low / 1000:.3f} to {a.factor.high / 1000:.3f}\n"
+            f"critical area: {a.area.low} to {a.area.high} square centimetres\n"
+            f"column: {a.column}{flagged}\n"
+            "only for a rotorcraft or multirotor that strikes the ground at more than 60 degrees, which isn't judged here\n")
 
 
 def done(*command, **settings):
@@ -99,8 +118,23 @@ class InstalledTest(unittest.TestCase):
                              "size column: 1\n", "size column: none is large enough\n"))
         self.assertEqual(self.run_program(program).returncode, 2)
         self.assertEqual(self.run_program(program, "/nowhere/at/all").returncode, 2)
+        self.fails_on_a_full_disk(program, EXAMPLES[0])
+
+    def says_the_high_angles(self, program):
+        for aircraft in AIRCRAFT:
+            ran, words = self.run_program(program, *aircraft), high_angle_words(*aircraft)
+            self.assertEqual((ran.stdout, ran.returncode), (words, 1 if words.startswith("refusal ") else 0))
+        self.assertIn(", the exact one may be", high_angle_words(*AIRCRAFT[1]))
+        right = [str(number) for number in AIRCRAFT[0]]
+        wrong = [[*right[:place], word, *right[place + 1:]] for place in range(3) for word in NOT_NUMBERS]
+        for arguments in ([], right[:2], [*right, "0"], *wrong):
+            ran = self.run_program(program, *arguments)
+            self.assertEqual((ran.returncode, ran.stdout, ran.stderr.count("\n")), (2, "", 1), arguments)
+        self.fails_on_a_full_disk(program, *right)
+
+    def fails_on_a_full_disk(self, program, *arguments):
         with open("/dev/full", "w") as full:
-            ran = subprocess.run([program, EXAMPLES[0]], stdout=full, stderr=subprocess.PIPE, text=True, env=self.environment)
+            ran = subprocess.run([program, *arguments], stdout=full, stderr=subprocess.PIPE, text=True, env=self.environment)
         self.assertEqual((ran.returncode, ran.stderr.count("\n")), (2, 1), ran.stderr)
 
     def faster_than_all_size_columns(self):
@@ -133,7 +167,17 @@ class InstalledTest(unittest.TestCase):
     def test_the_examples(self):
         for static in (False, True):
             self.says_the_examples(self.built("example", ROOT / "console/examples/case.c", CC, "-std=c99", static=static))
+            self.says_the_high_angles(self.built("high_angle", ROOT / "console/examples/high_angle.c", CC, "-std=c99", static=static))
         self.says_the_examples(self.crate("example_rust", (ROOT / "console/rust/examples/case.rs").read_text()))
+        self.says_the_high_angles(self.crate("high_angle_rust", (ROOT / "console/rust/examples/high_angle.rs").read_text()))
+
+    def test_the_high_angle_of_readme(self):
+        """The program of its command, which make makes, prints what README shows below it."""
+        text = (ROOT / "README.md").read_text()
+        program, aircraft, shown = re.search(r"^    (\S+) ([\d ]+)\n\n((?:    .*\n)+)", text.split("    make target/console/high", 1)[1], re.M).groups()
+        self.assertEqual(make(program).returncode, 0)
+        ran = self.run_program(ROOT / program, *aircraft.split())
+        self.assertEqual((ran.returncode, ran.stdout), (0, shown.replace("    ", "")))
 
     def test_version_messages_and_nothing_lent(self):
         wanted = [f"{NUMBER} {NUMBER}", *messages(), "5", "5", "13", "15"]

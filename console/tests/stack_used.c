@@ -55,6 +55,7 @@ static void make_text(void) {
 
 int main(void) {
     nb_sheet_answer_t sheet;
+    nb_high_angle_t high_angle;
     nb_footprint_t footprint;
     nb_assessment_t assessment;
     nb_reading_t reading;
@@ -67,6 +68,8 @@ int main(void) {
     USED(nb_footprint, WORD(&footprint), WORD(counts), NB_MAP_CELLS, WORD(marks), NB_MAP_ROWS, 10000);
     USED(nb_sheet, WORD(&sheet), 1000, 10000, 2500);
     if (sheet.refusal != NB_ACCEPTED || footprint.row != 5 || reading.head.mass != 10000) return 1;
+    USED(nb_high_angle, WORD(&high_angle), 1100, 15000, 2500);
+    if (high_angle.refusal != NB_ACCEPTED || high_angle.area.high != 57102) return 1;
     USED(nb_intrinsic_class, 3, 4, 0);
     USED(nb_final_class, 3, 6, 0x2212);
     return 0;

@@ -1,5 +1,5 @@
 """The pages' numbers: README's are the checker's (the fields of a case, the mitigation digits, the class table, the size columns, the
-refusals, the frame that it explains), TRUST's are the header's and the repository's."""
+refusals, the frame that it explains, the high impact angle model), TRUST's are the header's and the repository's."""
 
 import re
 import sys
@@ -25,6 +25,16 @@ def table(first):
     """The rows below the heading that starts with this cell, as lists of cells."""
     rows = README.split(f"\n| {first} ", 1)[1].split("\n\n", 1)[0].splitlines()[2:]
     return [[cell.strip() for cell in row.strip("|").split("|")] for row in rows]
+
+
+def joined(source):
+    """Without line ends, and without what begins a line of a comment."""
+    return re.sub(r"\s+(?:(?:\*|///)\s+)?", " ", source)
+
+
+def numbers_in(words):
+    """The whole numbers, with or without commas."""
+    return [int(number.replace(",", "")) for number in re.findall(r"\d+(?:,\d{3})*", words)]
 
 
 def size_column(dimension, speed):
@@ -82,7 +92,49 @@ class ReadmeTest(unittest.TestCase):
             for larger in ((dimension + 1, speed), (dimension, speed + 1)):
                 self.assertEqual(size_column(*larger), 0 if column == len(sizes) else column + 1)
         for source in (HEADER, ANSWERS):
-            self.assertIn(said, re.sub(r"\s+(?:\*|///)\s+", " ", source))
+            self.assertIn(said, joined(source))
+
+    def test_the_frontal_area(self):
+        said = re.search(r"in straight lines between (.*?), rounded down", README)[1]
+        numbers = numbers_in(said)
+        self.assertEqual(tuple(zip(numbers[1::2], numbers[::2])), g.FRONTAL_POINTS)
+        for source in (HEADER, ANSWERS):
+            self.assertIn(f"in straight lines between {said}, rounded down", joined(source))
+        self.assertIn("one from {:,} to {:,} mm)".format(*g.FRONTAL_RANGE), README)
+
+    def test_the_safety_factor(self):
+        least, below, most, above, times = re.search(
+            r"([\d.]+) below ([\d,]+) J, ([\d.]+) above ([\d,]+) J, between them ([\d.]+) times the fifth root of the energy in kJ", README).groups()
+        thousandths = [round(float(factor) * 1000) for factor in (least, most, times)]
+        (below,), (above,) = numbers_in(below), numbers_in(above)
+        for joules, factor in ((0, thousandths[0]), (below - 1, thousandths[0]), (above + 1, thousandths[1])):
+            self.assertEqual(g.factor_line(g.Line(joules, joules)), (factor, factor))
+        for joules in (below, 100_000, above):
+            low, high = g.factor_line(g.Line(joules, joules))
+            self.assertTrue(low ** 5 <= thousandths[2] ** 5 * joules // 1000 <= high ** 5 and high - low <= 1, joules)
+        for source in (HEADER, ANSWERS):
+            self.assertIn("{:,} below {:,} J, {:,} above {:,} J, between them {:,} times the fifth root of the energy in kJ".format(
+                thousandths[0], below, thousandths[1], above, thousandths[2]), joined(source))
+
+    def test_the_width_of_the_high_angles_area(self):
+        for source, unit in ((README, "cm²"), (joined(HEADER), "square centimetres"), (joined(ANSWERS), "square centimetres")):
+            self.assertIn(f"one part in 500 of the high area plus 2 {unit}", source)
+
+    def test_who_may_use_the_high_angle(self):
+        package = (ROOT / "console/rust/src/lib.rs").read_text()
+        for page in (README, HEADER, package):
+            for word in ("rotorcraft", "multirotor", "60 degrees"):
+                self.assertIn(word, joined(page))
+
+    def test_the_high_angles_that_are_shown(self):
+        aircraft = numbers_in(re.search(r"high_angle-in-words (\d.*)", README)[1])
+        low, high, column, other = numbers_in(re.search(r"which on the sheet has (.*?) here\.", README)[1])
+        sheet, steep = g.sheet(*aircraft), g.high_angle(*aircraft)
+        self.assertEqual((sheet.area, sheet.column, steep.column), ((low, high), column, other))
+        self.assertIn(f"critical area: {steep.area.low} to {steep.area.high} square centimetres\n    column: {other}\n", README)
+        *slow, low, high, sheet_low, sheet_high = numbers_in(re.search(r"isn't always the smaller one: (.*) on the sheet\.", README)[1])
+        self.assertEqual((g.high_angle(*slow).area, g.sheet(*slow).area), ((low, high), (sheet_low, sheet_high)))
+        self.assertGreater(low, sheet_high)
 
     def test_the_shared_library(self):
         self.assertIn(f"`libnuggetbay.so.{declarations.version_of(HEADER).split('.')[0]}`", README)

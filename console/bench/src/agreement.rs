@@ -1,9 +1,10 @@
 //! All contestants answer alike, and leave alike what is lent, on good and on damaged inputs.
 
-use crate::ffi::{Footprint, Reading, Sheet, SheetAnswer};
+use crate::ffi::{Footprint, HighAngle, Reading, Sheet, SheetAnswer};
 use crate::inputs::{self, Map, Random};
 use crate::{library, obvious, tuned};
 use nuggetbay::layout::{FRAME_LENGTH, LINE_1_LENGTH, MAP_CELLS, MAP_COLUMNS, MAP_ROWS};
+use nuggetbay::Aircraft;
 
 pub struct Tally {
     pub inputs: usize,
@@ -36,6 +37,44 @@ pub fn sheets(random: &mut Random, tally: &mut Tally) {
         let answer = library::sheet(a.dimension, a.mass, a.speed);
         assert_eq!(answer, sheet_answer(obvious::sheet(a.dimension, a.mass, a.speed)));
         assert_eq!(answer, tuned::sheet(a.dimension, a.mass, a.speed));
+        tally.inputs += 1;
+        tally.refused += usize::from(answer.refusal != 0);
+    }
+}
+
+fn high_angle_answer(result: Result<HighAngle, u8>) -> HighAngle {
+    result.unwrap_or_else(|refusal| HighAngle { refusal, ..Default::default() })
+}
+
+/// The mass with which the area is near a limit, where a factor between 2.3 and 7 leads there.
+fn mass_near_a_limit(a: Aircraft) -> u32 {
+    let circle = 157.0 * f64::from(a.dimension + 600).powi(2) / 20_000_000.0;
+    let factor = obvious::LIMITS.iter().map(|&limit| limit as f64 / circle).find(|f| (2_300.0..7_000.0).contains(f));
+    factor.map_or(a.mass, |f| inputs::mass_of_energy((f / 1_400.0).powi(5) * 1_000.0, a.dimension))
+}
+
+pub fn high_angles(random: &mut Random, tally: &mut Tally) {
+    for i in 0..200_000 {
+        let mut a = inputs::steep_aircraft(random);
+        let anything = (random.next() >> 32) as u32 >> random.below(32);
+        match i % 20 {
+            0 => a.dimension = anything,
+            1 => a.mass = anything,
+            2 => a.speed = anything,
+            // where two straight lines of the frontal area meet, and where the first begins and the last ends
+            3 => a.dimension = random.one_of(&obvious::FRONTAL_AREAS).0 - 1 + random.below(3) as u32,
+            // at a cut of the factor
+            4 => {
+                let joules = random.one_of(&[12_000.0, 3_125_000.0]);
+                a.mass = inputs::mass_of_energy(joules, a.dimension) + random.below(2) as u32;
+            }
+            5 => a.mass = mass_near_a_limit(a) + random.below(2) as u32,
+            6 => a = inputs::any_aircraft(random),
+            _ => {}
+        }
+        let answer = library::high_angle(a.dimension, a.mass, a.speed);
+        assert_eq!(answer, high_angle_answer(obvious::high_angle(a.dimension, a.mass, a.speed)));
+        assert_eq!(answer, tuned::high_angle(a.dimension, a.mass, a.speed));
         tally.inputs += 1;
         tally.refused += usize::from(answer.refusal != 0);
     }

@@ -1,5 +1,6 @@
 //! The inputs of the benchmark, from a fixed seed.
 
+use crate::obvious;
 use nuggetbay::layout::{MAP_CELLS, MAP_COLUMNS, MAP_ROWS, TEXT_LENGTH};
 use nuggetbay::Aircraft;
 use std::fmt::Write;
@@ -37,6 +38,22 @@ pub fn any_aircraft(random: &mut Random) -> Aircraft {
         mass: random.between(mass.0, mass.1),
         speed: random.between(speed.0, speed.1),
     }
+}
+
+/// The mass that has this energy at terminal speed, rounded down.
+pub fn mass_of_energy(joules: f64, dimension: u32) -> u32 {
+    let frontal_area = obvious::frontal_area(dimension).expect("a dimension of the high impact angle model");
+    (joules * 98.0 * frontal_area as f64 / 981.0).sqrt() as u32
+}
+
+/// For the high impact angle model: of all its dimensions, with an energy from 5,000 to 5,120,000 J, each doubling as often as the
+/// next, so that most factors are roots.
+pub fn steep_aircraft(random: &mut Random) -> Aircraft {
+    let dimension = random.one_of(&[(1_000, 3_000), (3_001, 8_000), (8_001, 20_000), (20_001, 40_000)]);
+    let dimension = random.between(dimension.0, dimension.1);
+    let doubled = random.below(10);
+    let joules = random.between(5_000 << doubled, 10_000 << doubled);
+    Aircraft { dimension, mass: mass_of_energy(f64::from(joules), dimension), speed: random.between(0, 40_000) }
 }
 
 /// Of column 1, so that every row of the class table has a class.

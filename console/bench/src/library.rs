@@ -1,10 +1,15 @@
 //! The library, called as its header declares it.
 
-use crate::ffi::{self, Footprint, Reading, SheetAnswer};
+use crate::ffi::{self, Footprint, HighAngle, Reading, SheetAnswer};
 
 pub fn sheet(dimension: u32, mass: u32, speed: u32) -> SheetAnswer {
     // SAFETY: numbers only.
     unsafe { ffi::nb_sheet(dimension, mass, speed) }
+}
+
+pub fn high_angle(dimension: u32, mass: u32, speed: u32) -> HighAngle {
+    // SAFETY: numbers only.
+    unsafe { ffi::nb_high_angle(dimension, mass, speed) }
 }
 
 pub fn footprint(counts: &[u32], marks: &[u64], cell_area: u32) -> Footprint {

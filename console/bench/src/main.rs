@@ -57,20 +57,39 @@ fn buffers() -> Rc<RefCell<Buffers>> {
     Rc::new(RefCell::new(Buffers { counts, marks, frame }))
 }
 
+/// A walk over aircraft.
+macro_rules! aircraft_run {
+    ($aircraft:ident, $answer:path) => {{
+        let aircraft = Rc::clone(&$aircraft);
+        Box::new(move |_| {
+            for a in aircraft.iter() {
+                black_box(&$answer(black_box(a.dimension), black_box(a.mass), black_box(a.speed)));
+            }
+        })
+    }};
+}
+
 fn sheet_contest(aircraft: Vec<Aircraft>) -> Contest {
     let aircraft = Rc::new(aircraft);
-    macro_rules! run {
-        ($sheet:path) => {{
-            let aircraft = Rc::clone(&aircraft);
-            Box::new(move |_| {
-                for a in aircraft.iter() {
-                    black_box(&$sheet(black_box(a.dimension), black_box(a.mass), black_box(a.speed)));
-                }
-            })
-        }};
-    }
-    let runs: [Box<dyn FnMut(usize)>; 3] = [run!(library::sheet), run!(tuned::sheet), run!(obvious::sheet)];
+    let runs: [Box<dyn FnMut(usize)>; 3] = [
+        aircraft_run!(aircraft, library::sheet),
+        aircraft_run!(aircraft, tuned::sheet),
+        aircraft_run!(aircraft, obvious::sheet),
+    ];
     Contest { name: "sheet", inputs: aircraft.len(), runs, tuned_at_least: 1.0, obvious_at_least: 0.0 }
+}
+
+fn high_angle_contest(aircraft: Vec<Aircraft>) -> Contest {
+    for a in &aircraft {
+        assert_eq!(library::high_angle(a.dimension, a.mass, a.speed).refusal, 0);
+    }
+    let aircraft = Rc::new(aircraft);
+    let runs: [Box<dyn FnMut(usize)>; 3] = [
+        aircraft_run!(aircraft, library::high_angle),
+        aircraft_run!(aircraft, tuned::high_angle),
+        aircraft_run!(aircraft, obvious::high_angle),
+    ];
+    Contest { name: "high angle", inputs: aircraft.len(), runs, tuned_at_least: 1.0, obvious_at_least: 0.0 }
 }
 
 fn footprint_contest(name: &'static str, maps: Vec<Map>) -> Contest {
@@ -171,8 +190,17 @@ fn contests() -> Vec<Contest> {
         damaged(random, |random, map, _| map.counts[random.below(MAP_CELLS as u64) as usize] = 1_000_001, false);
     let no_cell = damaged(random, |_, map, _| map.marks.fill(0), false);
     let wrong_word = damaged(random, |_, _, word| *word = 0x3000, false);
+    // drawn last, so that the other inputs are those of before
+    let mut steep = Vec::new();
+    while steep.len() < inputs::AIRCRAFT {
+        let a = inputs::steep_aircraft(random);
+        if !steep.contains(&a) {
+            steep.push(a);
+        }
+    }
     vec![
         sheet_contest(aircraft),
+        high_angle_contest(steep),
         footprint_contest("footprint, full maps", full_maps),
         footprint_contest("footprint, sparse maps", sparse_maps),
         reading_contest("reading, full texts", &full),
@@ -223,6 +251,7 @@ fn compare() {
     agreement::sheets(&mut random, &mut tally);
     agreement::footprints(&mut random, &mut tally);
     agreement::cases(&mut random, &mut tally);
+    agreement::high_angles(&mut random, &mut tally);
     println!(
         "All three agree on {} inputs, {} of them refused, and on what is left in the lent buffers.\n",
         tally.inputs, tally.refused
@@ -231,7 +260,7 @@ fn compare() {
 
 fn print_table() {
     println!(
-        "{} texts, {} maps, {} aircraft, all different, shared by the contestants. Lent buffers are lent again without clearing.\n",
+        "{} texts, {} maps, {} aircraft for the sheet and {2} for the high angle, all different, shared by the contestants. Lent buffers are lent again without clearing.\n",
         inputs::TEXTS,
         inputs::MAPS,
         inputs::AIRCRAFT

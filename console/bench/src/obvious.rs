@@ -1,11 +1,12 @@
-//! The operations as one would write them first: match, early exits, Option and Result, u128 where a product might be long.
+//! The operations as one would write them first: match, early exits, Option and Result, u128 where a product might be long, a root
+//! by powf that is then made right.
 
-use crate::ffi::{Bracket, CaseHead, Footprint, FrameFields, Sheet};
+use crate::ffi::{Bracket, CaseHead, Footprint, FrameFields, HighAngle, Sheet};
 use nuggetbay::layout::{line_1_place, COUNT_DIGITS, LINE_1_LENGTH, MARK_DIGITS};
 use nuggetbay::layout::{FRAME_LENGTH, MAP_CELLS, MAP_COLUMNS, MAP_ROWS, TEXT_LENGTH};
 use std::io::Write;
 
-const LIMITS: [u64; 5] = [65_000, 650_000, 6_500_000, 65_000_000, 650_000_000];
+pub const LIMITS: [u64; 5] = [65_000, 650_000, 6_500_000, 65_000_000, 650_000_000];
 /// The dimension and the speed of each size column.
 pub const SIZES: [(u32, u32); 5] = [(1_000, 2_500), (3_000, 3_500), (8_000, 7_500), (20_000, 12_000), (40_000, 20_000)];
 
@@ -66,6 +67,69 @@ pub fn sheet(dimension: u32, mass: u32, speed: u32) -> Result<Sheet, u8> {
         flag: u8::from(flag),
         size_column: size_column.map_or(0, |before| before as u8 + 1),
     })
+}
+
+/// The dimensions and the frontal areas between which there are straight lines.
+pub const FRONTAL_AREAS: [(u32, u32); 5] =
+    [(1_000, 100_000), (3_000, 500_000), (8_000, 2_500_000), (20_000, 12_500_000), (40_000, 25_000_000)];
+
+pub fn frontal_area(dimension: u32) -> Option<u64> {
+    FRONTAL_AREAS.windows(2).find_map(|line| {
+        let ((first, low), (last, high)) = (line[0], line[1]);
+        if !(first..=last).contains(&dimension) {
+            return None;
+        }
+        Some(u64::from(low) + u64::from(high - low) * u64::from(dimension - first) / u64::from(last - first))
+    })
+}
+
+/// The largest number whose fifth power is at most this one. powf is near it, and not always right.
+fn fifth_root(number: u128) -> u128 {
+    let mut root = (number as f64).powf(0.2) as u128;
+    while root.pow(5) > number {
+        root -= 1;
+    }
+    while (root + 1).pow(5) <= number {
+        root += 1;
+    }
+    root
+}
+
+fn factor(joules: u64, up: bool) -> u64 {
+    match joules {
+        0..=11_999 => 2_300,
+        12_000..=3_125_000 => {
+            let power = 5_378_240_000_000 * u128::from(joules);
+            let root = fifth_root(power);
+            (root + u128::from(up && root.pow(5) < power)) as u64
+        }
+        _ => 7_000,
+    }
+}
+
+#[inline(never)]
+pub fn high_angle(dimension: u32, mass: u32, speed: u32) -> Result<HighAngle, u8> {
+    if !(50..=100_000).contains(&dimension) {
+        return Err(1);
+    }
+    if !(50..=25_000_000).contains(&mass) {
+        return Err(2);
+    }
+    if speed > 40_000 {
+        return Err(3);
+    }
+    let frontal_area = frontal_area(dimension).ok_or(16)?;
+    // in g and square millimetres, 9.81 / (1.225 × 0.8) as 981 / 98
+    let energy = u128::from(mass) * u128::from(mass) * 981;
+    let by = 98 * u128::from(frontal_area);
+    let joules = Bracket { low: (energy / by) as u64, high: rounded_up!(energy, by) as u64 };
+    let factor = Bracket { low: factor(joules.low, false), high: factor(joules.high, true) };
+    let a = u64::from(dimension) + 600;
+    let area_at = |factor: u64| 157 * a * a * factor;
+    let area = Bracket { low: area_at(factor.low) / 20_000_000, high: rounded_up!(area_at(factor.high), 20_000_000) };
+    let column = LIMITS.iter().position(|&limit| limit >= area.high).ok_or(4)?;
+    let flag = column > 0 && area.low <= LIMITS[column - 1];
+    Ok(HighAngle { refusal: 0, column: column as u8 + 1, flag: u8::from(flag), frontal_area, joules, factor, area })
 }
 
 fn table_row(people: u32, cell_area: u32) -> u8 {

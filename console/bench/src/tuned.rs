@@ -1,7 +1,7 @@
 //! The operations tuned by hand for the same target (x86-64 with SSE2, safe Rust, no intrinsics): no early exit where bytes or
-//! cells are walked, lanes of digits, cells chosen by masks, one division where two quotients differ by one.
+//! cells are walked, lanes of digits, cells chosen by masks, one division where two quotients differ by one, roots from parabolas.
 
-use crate::ffi::{Bracket, CaseHead, Footprint, FrameFields, Reading, Sheet, SheetAnswer};
+use crate::ffi::{Bracket, CaseHead, Footprint, FrameFields, HighAngle, Reading, Sheet, SheetAnswer};
 use nuggetbay::layout::{frame_place, line_1_place, COUNTS, COUNT_LINE, LINE_1_LENGTH, MARKS, MARK_LINE};
 use nuggetbay::layout::{FRAME_LENGTH, MAP_CELLS, MAP_COLUMNS, MAP_ROWS, REFUSAL_LENGTH, TEXT_LENGTH};
 use std::ops::Range;
@@ -60,6 +60,152 @@ pub fn sheet(dimension: u32, mass: u32, speed: u32) -> SheetAnswer {
     let glide = Bracket { low: 2_570_666, high: 2_570_667 };
     let (column, flag) = (before as u8 + 1, u8::from(flag));
     SheetAnswer { refusal: 0, sheet: Sheet { glide, run, saving, slide, total, area, column, flag, size_column } }
+}
+
+/// The refusal of an aircraft that isn't accepted.
+fn high_angle_refusal(dimension: u32, mass: u32, speed: u32) -> u8 {
+    if dimension.wrapping_sub(50) > 99_950 {
+        1
+    } else if mass.wrapping_sub(50) > 24_999_950 {
+        2
+    } else if speed > 40_000 {
+        3
+    } else {
+        16
+    }
+}
+
+/// By branches: with conditional moves in their place the whole answer took longer.
+fn frontal_area(dimension: u64) -> u64 {
+    if dimension <= 8_000 {
+        if dimension <= 3_000 {
+            200 * dimension - 100_000
+        } else {
+            400 * dimension - 700_000
+        }
+    } else if dimension <= 20_000 {
+        2_500 * (dimension - 8_000) / 3 + 2_500_000
+    } else {
+        625 * dimension
+    }
+}
+
+/// The fifth power, in thousandths, of the factor of one joule.
+const JOULE: u64 = 5_378_240_000_000;
+
+/// The factor of an energy, in 2^20ths of a thousandth, by bisection.
+const fn fine_factor(joules: u64) -> u64 {
+    let power = JOULE as u128 * joules as u128;
+    let (mut low, mut high) = (0u128, 7_200 << 20);
+    while low + 1 < high {
+        let middle = (low + high) / 2;
+        // in two steps, so that no product passes 128 bits
+        let square = middle * middle >> 20;
+        if (square * square >> 20) * middle >> 40 < power {
+            low = middle;
+        } else {
+            high = middle;
+        }
+    }
+    low as u64
+}
+
+/// A parabola over each quarter of an octave of energies, through its start, middle and end: the factor at the start, the rise at the
+/// start's rate, and the bend that is taken off by the end. The place is four times the leading zeros and the first three digits.
+static PARABOLAS: [(u64, u64, u64); 64] = {
+    let mut parabolas = [(0, 0, 0); 64];
+    let mut place = 44;
+    while place < 80 {
+        // the three digits are 4 to 7, so that the zeros are one less than a fourth of the place
+        let eighth = 1 << (29 - place / 4);
+        let start = (place % 4 + 4) * 2 * eighth;
+        let (first, middle, last) = (fine_factor(start), fine_factor(start + eighth), fine_factor(start + 2 * eighth));
+        parabolas[place as usize % 64] = (first << 29, 4 * middle - 3 * first - last, 2 * (2 * middle - first - last));
+        place += 1;
+    }
+    parabolas
+};
+
+fn guess(joules: u32) -> u64 {
+    let zeros = joules.leading_zeros();
+    let shifted = joules << (zeros % 32);
+    let (first, rise, bend) = PARABOLAS[(4 * zeros + (shifted >> 29)) as usize % 64];
+    let along = u64::from(shifted % (1 << 29));
+    (first + along * (rise - (along * bend >> 29))) >> 49
+}
+
+fn fifth_power(factor: u64) -> u64 {
+    let square = factor * factor;
+    square * square * factor
+}
+
+/// The factors of energies from 12,000 to 3,125,000 J. The guess is nearly always right, so that the loops' branches are foreseen.
+fn roots(joules: Bracket) -> Bracket {
+    let (power, high_power) = (JOULE * joules.low, JOULE * joules.high);
+    let mut low = guess(joules.low as u32);
+    let mut below = fifth_power(low);
+    while power < below {
+        low -= 1;
+        below = fifth_power(low);
+    }
+    let mut above = fifth_power(low + 1);
+    while above <= power {
+        low += 1;
+        below = above;
+        above = fifth_power(low + 1);
+    }
+    if below == high_power {
+        return Bracket { low, high: low };
+    }
+    let mut high = low + 1;
+    while above < high_power {
+        high += 1;
+        above = fifth_power(high);
+    }
+    Bracket { low, high }
+}
+
+#[inline(never)]
+pub fn high_angle(dimension: u32, mass: u32, speed: u32) -> HighAngle {
+    let accepted =
+        (dimension.wrapping_sub(1_000) <= 39_000) & (mass.wrapping_sub(50) <= 24_999_950) & (speed <= 40_000);
+    if !accepted {
+        return HighAngle { refusal: high_angle_refusal(dimension, mass, speed), ..Default::default() };
+    }
+    let frontal_area = frontal_area(u64::from(dimension));
+    let energy = u64::from(mass) * u64::from(mass) * 981;
+    let by = 98 * frontal_area;
+    let low = energy / by;
+    // the division leaves the rest too
+    let joules = Bracket { low, high: low + u64::from(energy % by != 0) };
+    // one comparison where both are roots; the low energy alone may be below the first limit, and then the high one is 12,000 J
+    let factor = if (12_000..3_125_000).contains(&joules.low) {
+        roots(joules)
+    } else if joules.low >= 3_125_000 {
+        Bracket { low: 7_000, high: 7_000 }
+    } else {
+        Bracket { low: 2_300, high: if joules.high < 12_000 { 2_300 } else { 2_302 } }
+    };
+    let a = u64::from(dimension) + 600;
+    let square = 157 * a * a;
+    let area =
+        Bracket { low: factor.low * square / 20_000_000, high: (factor.high * square + 19_999_999) / 20_000_000 };
+    // the column, and the limit before it and one
+    let (column, flagged_below) = if area.high <= LIMITS[2] {
+        if area.high <= LIMITS[0] {
+            (1, 0)
+        } else if area.high <= LIMITS[1] {
+            (2, LIMITS[0] + 1)
+        } else {
+            (3, LIMITS[1] + 1)
+        }
+    } else if area.high <= LIMITS[3] {
+        (4, LIMITS[2] + 1)
+    } else {
+        (5, LIMITS[3] + 1)
+    };
+    let flag = u8::from(area.low < flagged_below);
+    HighAngle { refusal: 0, column, flag, frontal_area, joules, factor, area }
 }
 
 fn table_row(people: u32, cell_area: u32) -> u8 {

@@ -3,10 +3,11 @@
 
 use crate::{ffi, Refusal};
 
-/// An aircraft. [`sheet`](crate::sheet) and [`assess`](crate::assess) refuse what is out of range.
+/// An aircraft. [`sheet`](crate::sheet), [`high_angle`](crate::high_angle) and [`assess`](crate::assess) refuse what is out of range.
 #[derive(Clone, Copy, Debug, PartialEq, Eq, Hash)]
 pub struct Aircraft {
-    /// The dimension in mm: 50 to 100,000, else [`Refusal::Dimension`].
+    /// The dimension in mm: 50 to 100,000, else [`Refusal::Dimension`]; for [`high_angle`](crate::high_angle) 1,000 to 40,000, else
+    /// [`Refusal::FrontalDimension`].
     pub dimension: u32,
     /// The mass in g: 50 to 25,000,000, else [`Refusal::Mass`].
     pub mass: u32,
@@ -14,7 +15,7 @@ pub struct Aircraft {
     pub speed: u32,
 }
 
-/// A line of the sheet: a number at most the exact one, and a number at least the exact one.
+/// A figure: a number at most the exact one, and a number at least the exact one.
 #[derive(Clone, Copy, Debug, PartialEq, Eq, Hash)]
 pub struct Bracket {
     /// At most the exact number.
@@ -48,6 +49,26 @@ pub struct Sheet {
     /// It is there to be shown, so that crews can see why the area route was taken: where it is higher than the column, or `None`,
     /// dimension and speed alone would give a higher column, or none. The class comes from [`column`](Sheet::column), never from it.
     pub size_column: Option<u8>,
+}
+
+/// The high impact angle model: the critical area, the column of the class table and the flag, and what they are made of.
+#[derive(Clone, Copy, Debug, PartialEq, Eq, Hash)]
+pub struct HighAngle {
+    /// The column of the class table, 1 to 5, from the high area, as on the [`Sheet`].
+    pub column: u8,
+    /// Whether the low area lies within the column before, so that the exact column may be that one.
+    pub flag: bool,
+    /// The frontal area in square millimetres: in straight lines between 100,000 at 1,000 mm, 500,000 at 3,000, 2,500,000 at 8,000,
+    /// 12,500,000 at 20,000 and 25,000,000 at 40,000, rounded down.
+    pub frontal_area: u64,
+    /// The energy at terminal speed in joules, in air of 1.225 kg per cubic metre with a drag coefficient of 0.8.
+    pub joules: Bracket,
+    /// The safety factor in thousandths: 2,300 below 12,000 J, 7,000 above 3,125,000 J, between them 1,400 times the fifth root of
+    /// the energy in kJ; each by its own joules.
+    pub factor: Bracket,
+    /// The critical area in square centimetres. The exact area, with the exact energy from this frontal area, lies in it; it is no
+    /// wider than one part in 500 of the high area plus 2 square centimetres.
+    pub area: Bracket,
 }
 
 /// What lies under the marked cells of a map.
@@ -183,6 +204,20 @@ impl From<ffi::Sheet> for Sheet {
             column: sheet.column,
             flag: sheet.flag != 0,
             size_column: Some(sheet.size_column).filter(|&column| column != 0),
+        }
+    }
+}
+
+impl From<ffi::HighAngle> for HighAngle {
+    fn from(answer: ffi::HighAngle) -> HighAngle {
+        let ffi::HighAngle { refusal: _, column, flag, frontal_area, joules, factor, area } = answer;
+        HighAngle {
+            column,
+            flag: flag != 0,
+            frontal_area,
+            joules: joules.into(),
+            factor: factor.into(),
+            area: area.into(),
         }
     }
 }

@@ -31,6 +31,18 @@ pub struct SheetAnswer {
 
 #[repr(C)]
 #[derive(Clone, Copy, Debug, Default, PartialEq, Eq)]
+pub struct HighAngle {
+    pub refusal: u8,
+    pub column: u8,
+    pub flag: u8,
+    pub frontal_area: u64,
+    pub joules: Bracket,
+    pub factor: Bracket,
+    pub area: Bracket,
+}
+
+#[repr(C)]
+#[derive(Clone, Copy, Debug, Default, PartialEq, Eq)]
 pub struct Footprint {
     pub refusal: u8,
     pub row: u8,
@@ -99,6 +111,7 @@ pub struct FrameFields {
 
 extern "C" {
     pub fn nb_sheet(dimension: u32, mass: u32, speed: u32) -> SheetAnswer;
+    pub fn nb_high_angle(dimension: u32, mass: u32, speed: u32) -> HighAngle;
     pub fn nb_footprint(
         counts: *const u32,
         counts_len: usize,

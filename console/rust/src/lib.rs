@@ -26,7 +26,9 @@
 //!
 //! [`assess`] answers numbers for a map in memory. [`case`] reads a case text and prints a frame; [`read_case`] and [`write_frame`]
 //! are its two ends. [`sheet`], [`footprint`], [`intrinsic_class`] and [`final_class`] are the steps of an assessment.
-//! `include/nuggetbay.h` says the same for C, function by function.
+//! [`high_angle`] is the critical area by the EASA guideline's other model, for rotorcraft and multirotors that strike at
+//! more than 60 degrees; no assessment takes it by itself. `include/nuggetbay.h` says the same for C, function by
+//! function.
 
 #![deny(missing_docs)]
 #![warn(clippy::missing_errors_doc, clippy::undocumented_unsafe_blocks)]
@@ -36,7 +38,7 @@ mod ffi;
 pub mod layout;
 mod refusal;
 
-pub use answers::{Aircraft, Assessment, Bracket, CaseHead, Footprint, FrameFields, Question, Sheet};
+pub use answers::{Aircraft, Assessment, Bracket, CaseHead, Footprint, FrameFields, HighAngle, Question, Sheet};
 pub use layout::{FRAME_LENGTH, MAP_CELLS, MAP_COLUMNS, MAP_ROWS, REFUSAL_LENGTH, TEXT_LENGTH};
 pub use refusal::{NoSuchRefusal, Refusal};
 
@@ -74,6 +76,42 @@ pub fn sheet(aircraft: Aircraft) -> Result<Sheet, Refusal> {
     let answer = unsafe { ffi::nb_sheet(dimension, mass, speed) };
     accepted(answer.refusal)?;
     Ok(answer.sheet.into())
+}
+
+/// The critical area of an aircraft by the high impact angle model, chapter 5 of the EASA guideline: a circle of radius
+/// D = 0.3 m + half the dimension, 3.14 × D², times a safety factor that comes from the energy of a fall at terminal speed.
+///
+/// The guideline has this model for rotorcraft and multirotors only, not for hybrids with wings, and only where the aircraft strikes
+/// the ground at an angle above 60 degrees, falling from the lowest operating height at the greatest speed. No function here judges
+/// either; where one of them doesn't hold, the area is that of [`sheet`]. The speed is judged for its range only: no figure depends
+/// on it.
+///
+/// # Errors
+///
+/// [`Refusal::Dimension`], [`Refusal::Mass`], [`Refusal::Speed`] where the aircraft is out of range, as [`sheet`];
+/// [`Refusal::FrontalDimension`] where the dimension is outside 1,000 to 40,000 mm. [`Refusal::Area`] never occurs: no area of this
+/// model is above the last limit.
+///
+/// # Examples
+///
+/// ```
+/// use nuggetbay::{high_angle, sheet, Aircraft, Bracket, Refusal};
+///
+/// let aircraft = Aircraft { dimension: 1_100, mass: 15_000, speed: 2_500 };
+/// let answer = high_angle(aircraft)?;
+/// assert_eq!(answer.area, Bracket { low: 57_079, high: 57_102 });
+/// assert_eq!((answer.column, answer.flag), (1, false));
+/// assert_eq!(sheet(aircraft)?.column, 2);
+///
+/// assert_eq!(high_angle(Aircraft { dimension: 999, ..aircraft }), Err(Refusal::FrontalDimension));
+/// # Ok::<(), Refusal>(())
+/// ```
+pub fn high_angle(aircraft: Aircraft) -> Result<HighAngle, Refusal> {
+    let Aircraft { dimension, mass, speed } = aircraft;
+    // SAFETY: numbers only.
+    let answer = unsafe { ffi::nb_high_angle(dimension, mass, speed) };
+    accepted(answer.refusal)?;
+    Ok(answer.into())
 }
 
 /// The footprint on a map: [`MAP_CELLS`] counts (0 to 1,000,000 people each), [`MAP_ROWS`] footprint rows, and the area of one

@@ -6,8 +6,8 @@ use std::fmt;
 /// The enum and all that is said of its numbers, from one table of number, name and message.
 macro_rules! refusals {
     ($($number:literal $name:ident $message:literal)*) => {
-        /// Why a call is refused. Its number is that of document 01, of a printed frame and of `include/nuggetbay.h`; its message
-        /// says which value was wrong and what is allowed. A later version may have more refusals.
+        /// Why a call is refused. Its number is that of documents 01 and 02, of a printed frame and of `include/nuggetbay.h`; its
+        /// message says which value was wrong and what is allowed. A later version may have more refusals.
         ///
         /// # Examples
         ///
@@ -77,6 +77,7 @@ refusals! {
     13 TextLength "wrong text length: 33,959 bytes are needed"
     14 TextByte "wrong byte in the text: lower-case hexadecimal digits, and byte 10 at the end of each line, are allowed"
     15 FrameLength "frame buffer too short: at least 43 bytes are needed"
+    16 FrontalDimension "no frontal area for this dimension: 1,000 to 40,000 mm is allowed"
 }
 
 impl Refusal {

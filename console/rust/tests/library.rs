@@ -1,4 +1,5 @@
-//! The safe calls: the worked points P1 to P16 of document 01, every refusal, and what is left in lent buffers.
+//! The safe calls: the worked points P1 to P16 of document 01, the high impact angle model, every refusal, and what is left in lent
+//! buffers.
 
 use nuggetbay::layout::{
     frame_place, line_1_place, COUNT_DIGITS, COUNT_LINE, FRAME, LINE_1, LINE_1_LENGTH, MARK_DIGITS, MARK_LINE,
@@ -60,6 +61,90 @@ fn the_class_comes_from_the_area_and_not_from_the_size() {
     assert_eq!(assessed(Aircraft { dimension: 8_000, mass: 50_000, speed: 0 }), Ok((Some(3), 2, 6)));
     // up to 1,000 mm no slide counts, whatever the speed
     assert_eq!(assessed(Aircraft { speed: 40_000, ..P2 }), Ok((None, 1, 5)));
+}
+
+fn bracket(low: u64, high: u64) -> Bracket {
+    Bracket { low, high }
+}
+
+fn high_angle_of(dimension: u32, mass: u32) -> Result<HighAngle, Refusal> {
+    high_angle(Aircraft { dimension, mass, speed: 0 })
+}
+
+#[test]
+fn the_high_angle_of_a_multirotor() {
+    let answer = HighAngle {
+        column: 1,
+        flag: false,
+        frontal_area: 120_000,
+        joules: bracket(18_769, 18_770),
+        factor: bracket(2_516, 2_517),
+        area: bracket(57_079, 57_102),
+    };
+    let aircraft = Aircraft { dimension: 1_100, mass: 15_000, speed: 2_500 };
+    assert_eq!(high_angle(aircraft), Ok(answer));
+    // no figure depends on the speed
+    for speed in [0, 1, 40_000] {
+        assert_eq!(high_angle(Aircraft { speed, ..aircraft }), Ok(answer));
+    }
+}
+
+#[test]
+fn the_frontal_area_runs_in_straight_lines() {
+    let points = [(1_000, 100_000), (3_000, 500_000), (8_000, 2_500_000), (20_000, 12_500_000), (40_000, 25_000_000)];
+    // 833 1/3 square millimetres a millimetre from 8,000 to 20,000 mm, rounded down
+    let between = [(1_001, 100_200), (2_999, 499_800), (3_001, 500_400), (7_999, 2_499_600), (8_001, 2_500_833)];
+    let more =
+        [(8_002, 2_501_666), (8_003, 2_502_500), (19_999, 12_499_166), (20_001, 12_500_625), (39_999, 24_999_375)];
+    for (dimension, frontal_area) in points.into_iter().chain(between).chain(more) {
+        assert_eq!(high_angle_of(dimension, 50).map(|answer| answer.frontal_area), Ok(frontal_area));
+    }
+}
+
+#[test]
+fn the_factor_is_chosen_by_each_ones_joules() {
+    let energy = |dimension, mass| high_angle_of(dimension, mass).map(|answer| (answer.joules, answer.factor));
+    // at 12,000 J, where the root is 2.3013: below it, on both sides of it, and exactly there
+    assert_eq!(energy(1_000, 10_948), Ok((bracket(11_998, 11_999), bracket(2_300, 2_300))));
+    assert_eq!(energy(1_006, 11_014), Ok((bracket(11_999, 12_000), bracket(2_300, 2_302))));
+    assert_eq!(energy(3_385, 28_000), Ok((bracket(12_000, 12_000), bracket(2_301, 2_302))));
+    // at 3,125,000 J, where the root is 7 itself
+    assert_eq!(energy(1_035, 182_766), Ok((bracket(3_124_999, 3_125_000), bracket(6_999, 7_000))));
+    assert_eq!(energy(2_462, 350_000), Ok((bracket(3_125_000, 3_125_000), bracket(7_000, 7_000))));
+    assert_eq!(energy(1_039, 183_448), Ok((bracket(3_125_000, 3_125_001), bracket(7_000, 7_000))));
+    // the least and the greatest
+    assert_eq!(energy(40_000, 50), Ok((bracket(0, 1), bracket(2_300, 2_300))));
+    assert_eq!(energy(1_000, 25_000_000), Ok((bracket(62_563_775_510, 62_563_775_511), bracket(7_000, 7_000))));
+}
+
+#[test]
+fn the_high_angles_column_and_flag_are_those_of_its_area() {
+    let judged =
+        |dimension, mass| high_angle_of(dimension, mass).map(|answer| (answer.area, answer.column, answer.flag));
+    assert_eq!(judged(1_202, 16_782), Ok((bracket(65_000, 65_027), 2, true)));
+    assert_eq!(judged(4_261, 99_319), Ok((bracket(649_957, 650_144), 3, true)));
+    assert_eq!(judged(12_556, 541_519), Ok((bracket(6_499_928, 6_501_287), 4, true)));
+    assert_eq!(judged(39_079, 1_350_958), Ok((bracket(64_997_142, 65_009_502), 5, true)));
+    // the largest, far below the last limit
+    assert_eq!(judged(40_000, 25_000_000), Ok((bracket(90_577_382, 90_577_382), 5, false)));
+}
+
+#[test]
+fn high_angle_refusals_in_their_order() {
+    let refused = |dimension, mass, speed| high_angle(Aircraft { dimension, mass, speed }).err();
+    assert_eq!(refused(49, 49, 40_001), Some(Refusal::Dimension));
+    assert_eq!(refused(100_001, 49, 40_001), Some(Refusal::Dimension));
+    assert_eq!(refused(50, 49, 40_001), Some(Refusal::Mass));
+    assert_eq!(refused(100_000, 25_000_001, 40_001), Some(Refusal::Mass));
+    assert_eq!(refused(50, 50, 40_001), Some(Refusal::Speed));
+    assert_eq!(refused(100_000, 25_000_000, 40_001), Some(Refusal::Speed));
+    for dimension in [50, 999, 40_001, 100_000] {
+        assert_eq!(refused(dimension, 25_000_000, 40_000), Some(Refusal::FrontalDimension));
+    }
+    for dimension in [1_000, 40_000] {
+        assert_eq!(refused(dimension, 25_000_000, 40_000), None);
+        assert_eq!(refused(dimension, 50, 0), None);
+    }
 }
 
 /// A map with people in one marked cell.
@@ -314,7 +399,7 @@ fn refusals_are_found_by_their_numbers() {
             Ok(refusal) => assert_eq!((Some(refusal), refusal.number()), (found, number)),
             Err(error) => assert_eq!((None, error.number()), (found, number)),
         }
-        assert_eq!(found.is_some(), (1..=15).contains(&number));
+        assert_eq!(found.is_some(), (1..=16).contains(&number));
     }
 }
 
@@ -331,11 +416,15 @@ fn ranges_are_as_the_messages_say() {
     type Refused<'a> = &'a dyn Fn(u32) -> Option<Refusal>;
     let (counts, marks) = one_cell(1, 0);
     let cell_area = |cell_area| footprint(&counts, &marks, cell_area).err();
-    let ranges: [(Refusal, u32, u32, Refused); 4] = [
+    let ranges: [(Refusal, u32, u32, Refused); 8] = [
         (Refusal::Dimension, 50, 100_000, &|dimension| sheet(Aircraft { dimension, ..P2 }).err()),
         (Refusal::Mass, 50, 25_000_000, &|mass| sheet(Aircraft { mass, ..P2 }).err()),
         (Refusal::Speed, 0, 40_000, &|speed| sheet(Aircraft { speed, ..P2 }).err()),
         (Refusal::CellArea, 100, 25_000_000, &cell_area),
+        (Refusal::Dimension, 50, 100_000, &|dimension| high_angle(Aircraft { dimension, ..P2 }).err()),
+        (Refusal::Mass, 50, 25_000_000, &|mass| high_angle(Aircraft { mass, ..P2 }).err()),
+        (Refusal::Speed, 0, 40_000, &|speed| high_angle(Aircraft { speed, ..P2 }).err()),
+        (Refusal::FrontalDimension, 1_000, 40_000, &|dimension| high_angle(Aircraft { dimension, ..P2 }).err()),
     ];
     for (refusal, low, high, refused) in ranges {
         let range = format!(" {} to {} ", with_commas(low as usize), with_commas(high as usize));
@@ -343,9 +432,12 @@ fn ranges_are_as_the_messages_say() {
         for allowed in [low, high] {
             assert_ne!(refused(allowed), Some(refusal));
         }
-        for wrong in [low.wrapping_sub(1), high + 1, u32::MAX] {
+        for wrong in [low.wrapping_sub(1), high + 1] {
             assert_eq!(refused(wrong), Some(refusal));
         }
+        // no frontal area is asked for where the dimension itself is out of range
+        let first = if refusal == Refusal::FrontalDimension { Refusal::Dimension } else { refusal };
+        assert_eq!(refused(u32::MAX), Some(first));
     }
 }
 
@@ -377,7 +469,7 @@ fn refusals_are_errors() {
         Ok(refusal)
     }
     assert_eq!(passed_on(4).expect("4 is a refusal"), Refusal::Area);
-    assert_eq!(passed_on(16).expect_err("16 isn't").to_string(), "no refusal has number 16");
+    assert_eq!(passed_on(255).expect_err("255 isn't").to_string(), "no refusal has number 255");
 }
 
 #[allow(dead_code)]
@@ -393,6 +485,7 @@ fn sizes_are_those_of_the_header() {
         ("bracket", size_of::<Bracket>()),
         ("sheet", size_of::<Sheet>()),
         ("sheet_answer", size_of::<SheetAnswer>()),
+        ("high_angle", size_of::<HighAngle>()),
         ("footprint", size_of::<Footprint>()),
         ("intrinsic_class", size_of::<IntrinsicClass>()),
         ("final_class", size_of::<FinalClass>()),

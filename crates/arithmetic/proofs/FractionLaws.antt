@@ -1,8 +1,9 @@
--- The laws of fractions: the four operations go with the order, and a denominator stays above zero.
-use Prim.Native.Nat.{_-_, _*_, _<_}
-use native.Mathlib.Nat.{mul-le-mul-right, mul-sub, mul-comm, mul-pos, le-of-mul-le-mul-right, le-refl}
+-- The laws of fractions: the four operations go with the order, a denominator stays above zero, and products associate.
+use mathlib.Core.Path.{_≡_, ap₂}
+use Prim.Native.Nat.{ℕ, _-_, _*_, _<_}
+use native.Mathlib.Nat.{mul-le-mul-right, mul-sub, mul-comm, mul-assoc, mul-pos, le-of-mul-le-mul-right, le-refl}
 use native.Mathlib.Omega.{arith}
-use Rattle.arithmetic.specs.Fraction.{Fraction, plus, minus, times, divided, _⊑_}
+use Rattle.arithmetic.specs.Fraction.{Fraction, _over_, plus, minus, times, divided, _⊑_}
 
 pub refl-le : (a : Fraction) → a ⊑ a
 refl-le a = le-refl _
@@ -46,3 +47,8 @@ plus-pos a b h k = mul-pos h k
 pub times-pos : (a b : Fraction) → 0 < a .den → 0 < b .den → 0 < times a b .den
 unfolding times
 times-pos a b h k = mul-pos h k
+
+pub times-assoc : (a b c : Fraction) → times (times a b) c ≡ times a (times b c)
+unfolding times
+times-assoc a b c =
+    ap₂ (λ (n d : ℕ). n over d) (mul-assoc (a .num) (b .num) (c .num)) (mul-assoc (a .den) (b .den) (c .den))

@@ -1,9 +1,11 @@
 -- Division rounded down and up, by any divisor above zero: the bracket that each keeps, and how each goes with its operands.
 use mathlib.Core.Path.{_≡_}
-use Prim.Native.Nat.{ℕ, suc, _+_, _-_, _*_, _/_, _≤_, _<_}
-use native.Mathlib.Nat.{div-mul-le-self, lt-div-mul-add, le-div-iff-mul-le, mul-le-mul-left, le-trans, div-lt-iff-lt-mul, suc-le-suc-iff, mul-le-mul-right, le-of-mul-le-mul-right, lt-of-mul-lt-mul-right, le-antisymm, mul-pos}
+use mathlib.Core.Logic.{⊎-elim}
+use Prim.Native.Nat.{ℕ, suc, _+_, _-_, _*_, _/_, _%_, _≤_, _<_}
+use native.Mathlib.Nat.{mod-eq-sub-div-mul, div-mul-le-self, lt-div-mul-add, le-div-iff-mul-le, mul-le-mul-left, le-trans, div-lt-iff-lt-mul, suc-le-suc-iff, mul-le-mul-right, le-of-mul-le-mul-right, lt-of-mul-lt-mul-right, le-antisymm, mul-pos}
 use native.Mathlib.Omega.{arith}
 use Rattle.arithmetic.specs.Rounding.{divUp}
+use Rattle.arithmetic.proofs.TestLaws.{lt-or-le}
 
 pub down-low : (a b : ℕ) → a / b * b ≤ a
 down-low a b = div-mul-le-self a b
@@ -34,6 +36,27 @@ down-mono a c b h k = le-down (a / b) c b h (le-trans (down-low a b) k)
 
 pub up-mono : (a c b : ℕ) → 0 < b → a ≤ c → divUp a b ≤ divUp c b
 up-mono a c b h k = up-le (divUp c b) a b h (le-trans k (up-high c b h))
+
+-- the quotient rounded up, from the one rounded down and the remainder
+pub up-exact : (a b : ℕ) → 0 < b → a % b ≡ 0 → a / b ≡ divUp a b
+up-exact a b h e =
+    let all : a / b * b ≡ a = omega (arith, mod-eq-sub-div-mul a b, down-low a b) in
+    le-antisymm (le-of-mul-le-mul-right {k = b} (omega (arith, up-high a b h)) h) (up-le (a / b) a b h (omega arith))
+
+pub up-inexact : (a b : ℕ) → 0 < b → (a % b ≡ 0 → ⊥) → a / b + 1 ≡ divUp a b
+up-inexact a b h e =
+    le-antisymm (omega (arith, lt-of-mul-lt-mul-right b {m = a / b} {n = divUp a b} (omega (arith, below, up-high a b h))))
+    (up-le (a / b + 1) a b h (omega (arith, down-high a b h)))
+  where
+    below : a / b * b < a
+    below = ⊎-elim (λ q. q) (λ (q : a ≤ a / b * b). absurd (e (omega (arith, mod-eq-sub-div-mul a b)))) (lt-or-le (a / b * b) a)
+
+-- the two quotients are at most one apart
+pub rounded-apart : (a b : ℕ) → 0 < b → (a / b ≤ divUp a b) × (divUp a b ≤ a / b + 1)
+rounded-apart a b h = (
+  le-of-mul-le-mul-right {k = b} (omega (arith, down-low a b, up-high a b h)) h,
+  up-le (a / b + 1) a b h (omega (arith, down-high a b h)),
+)
 
 -- a larger divisor, a smaller quotient
 pub down-anti : (a b d : ℕ) → 0 < b → b ≤ d → a / d ≤ a / b

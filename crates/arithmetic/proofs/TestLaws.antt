@@ -6,8 +6,8 @@ use Prim.Native.Nat.{ℕ, zero, suc, _+_, _≤_, _<_}
 use native.Mathlib.Nat.{not-suc-le-zero, eq-or-lt-of-le, le-of-suc-le-suc, add-zero, add-suc}
 use native.Mathlib.Numerals.{add-one}
 use native.Mathlib.Omega.{arith}
-use borrow.Author.Tests.{le-ltb, ltb-true, ltb-false, eqb-true}
-use lib.Dec.{ltb, eqb}
+use borrow.Author.Tests.{le-ltb, ltb-true, ltb-false, leb-true, leb-false, eqb-true}
+use lib.Dec.{ltb, leb, eqb}
 use Rattle.arithmetic.specs.Conditions.{outside, anyBelow}
 
 pub lt-or-le : (a b : ℕ) → (a < b) ⊎ (b ≤ a)
@@ -35,6 +35,14 @@ cond-le false h l = l
 pub le-cond : (t : Bool) {a b k : ℕ} → k ≤ a → k ≤ b → k ≤ cond t a b
 le-cond true h l = h
 le-cond false h l = l
+
+-- a choice by a comparison is within a bound that each value keeps where it is taken
+pub choice-le : (n l : ℕ) {a b k : ℕ} → (n ≤ l → a ≤ k) → (l < n → b ≤ k) → cond (leb n l) a b ≤ k
+choice-le n l {a} {b} {k} h g = by-test (leb n l) refl
+  where
+    by-test : (t : Bool) → leb n l ≡ t → cond t a b ≤ k
+    by-test true e = h (leb-true n l e)
+    by-test false e = g (leb-false n l e)
 
 -- an answer that goes on where n is 0: if it isn't refused, n is 0
 pub went-on : {A : Type 0} (refusal : A → ℕ) (n : ℕ) (x y : A) → refusal y ≡ n → refusal (cond (eqb n 0) x y) ≡ 0 → n ≡ 0

@@ -2,7 +2,7 @@ pub mod FirstInTable
 pub mod GrowingTable
 pub mod LimitLaws
 pub mod ColumnLaws
-pub mod CountedColumn
+pub mod ColumnFromFirst
 pub mod ColumnAtMostHolds
 pub mod ExactColumnHolds
 pub mod SizeColumnFromLast

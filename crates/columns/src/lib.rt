@@ -51,27 +51,24 @@ pub struct ColumnAndFlag {
     pub flag: u8,
 }
 
-// The first column whose limit is at least the high area, and whether the low area is at most the limit before it. The limits
-// grow, so that the last one below the high area is the limit before its column. Above the last limit there is no column.
+// The first column whose limit is at least the high area, and whether the low area is at most the limit before it. Above the last
+// limit there is no column.
 pub fn column_and_flag(area: Bracket) -> ColumnAndFlag
     ensures { λ r. ⌜ r ≡ columnAndFlagOf area ⌝ }
 {
-    if LAST_LIMIT < area.high {
-        return ColumnAndFlag { column: 0, flag: 0 };
-    }
-    let mut column: u8 = 1;
-    // the limit before the column, and one; 0 in the first column, where no low area is flagged
+    // the limit before, and one; 0 before the first column, where no low area is flagged
     let mut flagged_below: u64 = 0;
     let mut k: usize = 0;
-    while k < 4 {
-        if LIMITS[k] < area.high {
-            column += 1;
-            flagged_below = LIMITS[k] + 1;
+    while k < 5 {
+        if area.high <= LIMITS[k] {
+            let flag = (area.low < flagged_below) as u8;
+            let column = k as u8 + 1;
+            return ColumnAndFlag { column, flag };
         }
+        flagged_below = LIMITS[k] + 1;
         k += 1;
     }
-    let flag = (area.low < flagged_below) as u8;
-    ColumnAndFlag { column, flag }
+    ColumnAndFlag { column: 0, flag: 0 }
 }
 
 // The first size column whose dimension and speed are both at least the aircraft's; 0 where none is large enough. The pairs are

@@ -1,6 +1,7 @@
 // The boundary: every operation that a console written in C or Rust may call. Each one answers what the operation that it passes on to answers.
 ghost use mathlib.Core.Path.{_≡_};
 ghost use Rattle.sheet.specs.Sheet.{sheetOf};
+ghost use Rattle.high_angle.specs.HighAngle.{highAngleOf};
 ghost use Rattle.footprint.specs.Footprint.{footprintOf};
 ghost use Rattle.risk_class.specs.ClassTable.{intrinsicClassOf};
 ghost use Rattle.risk_class.specs.Mitigation.{finalClassOf};
@@ -18,6 +19,8 @@ use footprint::footprint_on_map;
 use frame::FrameFields;
 use frame::write_frame;
 use ground_risk_case::print_case;
+use high_angle::HighAngle;
+use high_angle::high_angle_of;
 use risk_class::FinalClass;
 use risk_class::IntrinsicClass;
 use risk_class::final_class;
@@ -33,6 +36,14 @@ pub extern "C" fn nb_sheet(dimension: u32, mass: u32, speed: u32) -> SheetAnswer
 {
     let size = size_column(dimension, speed);
     sheet_with_size_column(dimension, mass, speed, size)
+}
+
+// The high impact angle area of a multirotor.
+#[no_mangle]
+pub extern "C" fn nb_high_angle(dimension: u32, mass: u32, speed: u32) -> HighAngle
+    ensures { λ r. ⌜ r ≡ highAngleOf dimension mass speed ⌝ }
+{
+    high_angle_of(dimension, mass, speed)
 }
 
 // The footprint on a lent map.

@@ -6,7 +6,6 @@ ghost use Rattle.sheet.specs.Sheet.{zeroSheet, refusedSheet, rangeTests,
 
 mod lines;
 
-use crate::lines::PERSON_WIDTH;
 use crate::lines::area;
 use crate::lines::glide;
 use crate::lines::run;
@@ -17,6 +16,9 @@ use columns::Bracket;
 use columns::LAST_LIMIT;
 use columns::column_and_flag;
 use columns::size_column;
+
+// Twice the radius of a person, in mm.
+pub const PERSON_WIDTH: u64 = 600;
 
 // Lines 1 to 6, the column, the flag and the size column. Lengths are in micrometres, the total (T of document 01) in thousandths
 // of a square millimetre, the area in square centimetres.

@@ -7,6 +7,7 @@ ghost use Rattle.columns.specs.Bracket.{roundedOutward};
 ghost use Rattle.sheet.specs.PrivateBounds.{aMax, glideMax, slideMax, totalMax, AtMost};
 ghost use Rattle.sheet.specs.Lines.{fullWidth, glideOf, runOf, savingOf, slideOf, totalAt, totalOf, formulaOf, areaOf};
 ghost use Rattle.sheet.specs.PrivateAreaTenths.{areaRule};
+use crate::PERSON_WIDTH;
 use arithmetic::difference_or_zero;
 use columns::Bracket;
 
@@ -14,9 +15,6 @@ use columns::Bracket;
 const WHOLE_ABOVE: u64 = 8_000;
 
 const SIX_TENTHS_ABOVE: u64 = 1_000;
-
-// Twice the radius of a person, in mm.
-pub(crate) const PERSON_WIDTH: u64 = 600;
 
 pub(crate) fn glide() -> Bracket
     ensures { λ r. ⌜ r ≡ glideOf ⌝ }

@@ -1,0 +1,5 @@
+pub mod ExactHighAngle
+pub mod Accuracy
+pub mod HighAnglePoint
+pub mod PointTable
+pub mod Points

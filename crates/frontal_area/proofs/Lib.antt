@@ -1,0 +1,2 @@
+pub mod FrontalLaws
+pub mod PromisesHold

@@ -1,0 +1,2 @@
+pub mod FrontalArea
+pub mod Promises

@@ -1,0 +1,4 @@
+pub mod RootLaws
+pub mod FactorLaws
+pub mod AnswerMade
+pub mod PromisesHold

@@ -1,0 +1,4 @@
+pub mod SafetyFactor
+pub mod HighAngle
+pub mod Promises
+pub mod PrivateBounds
