@@ -34,7 +34,7 @@ marked-le m x h = let le : m ≤ 1 = omega arith in omega (arith, mul-le-mul-rig
 pub key-le : (m x : ℕ) → m < 2 → x ≤ largestCount → m * (x + 1) ≤ largestCount + 1
 key-le m x h l = le-trans (marked-le m (x + 1) h) (omega arith)
 
--- the largest of f at marked indices is that at a marked one where no marked one has more
+-- where no marked index has more than the marked index q, the largest of f over the marked ones is that of q
 pub max-of-marked : (mark f : ℕ → ℕ) → ((i : ℕ) → mark i < 2) → (n : ℕ) {q : ℕ} → q < n → mark q ≡ 1
     → ((p : ℕ) → p < n → mark p ≡ 1 → f p ≤ f q) → maxBelow (λ p. mark p * f p) n ≡ f q
 max-of-marked mark f bit n {q} l m most =

@@ -18,8 +18,7 @@ use Rattle.map.proofs.TableRowLaws.{row-mono, row-ge, row-le}
 use Rattle.map.proofs.MarkLaws.{mark-lt, cells-are-ones}
 use Rattle.map.proofs.TestsPassed.{Passed, passed, counts-small}
 use Rattle.footprint.proofs.CellLaws.{marked-le}
-use Rattle.footprint.proofs.WorstCellLaws.{worst-lt, worst-marked, none-more, more-than-before}
-use Rattle.footprint.proofs.RowOfLargestCountHolds.{highest-is}
+use Rattle.footprint.proofs.WorstCellLaws.{worst-lt, worst-marked, none-more, more-than-before, highest-is}
 
 pub answer : (map : Map) (marks : List ℕ) → FootprintAnswer map marks
 unfolding footprintOf

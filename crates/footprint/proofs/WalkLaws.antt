@@ -20,7 +20,6 @@ use Rattle.map.specs.Map.{largestCount, Map, countAt, bitAt, markAt, cellsIn}
 use Rattle.map.specs.TableRow.{tableRow}
 use Rattle.map.specs.Refusals.{wrongCount}
 use Rattle.footprint.specs.Footprint.{peopleAt, highestRow, worstPlace, acceptedFootprint}
-use Rattle.footprint.specs.RowOfLargestCount.{largestMarkedCount}
 use Rattle.footprint.specs.PrivateWalk.{keyMax, keyAt, rowKey, markedCount, keyAbove, rowWalk, withRow, largestKeyIn, rowWorse, worstRow, mapWalk}
 use Rattle.footprint.specs.declared.row.RowWalk.{RowWalk}
 use Rattle.footprint.specs.declared.walk.MapWalk.{MapWalk}
@@ -28,8 +27,7 @@ use Rattle.map.proofs.MarkLaws.{mark-lt, mark-here}
 use Rattle.map.proofs.TestsPassed.{counts-small}
 use Rattle.footprint.proofs.CellLaws.{marked-le, key-le}
 use Rattle.footprint.proofs.RowLaws.{above-pos, above-taken}
-use Rattle.footprint.proofs.WorstCellLaws.{some-key, place-is, largest-key}
-use Rattle.footprint.proofs.RowOfLargestCountHolds.{largest-is, row-of-largest-count}
+use Rattle.footprint.proofs.WorstCellLaws.{some-key, place-is, highest-is, worst-count}
 
 -- ---- a map row lent as a part of the map's counts
 
@@ -185,11 +183,12 @@ module _ (counts marks : List ℕ) {w : MapWalk} (w-is : w ≡ mapWalk counts ma
       abbrev map : Map
       map = record { counts = counts; cell-area = area }
 
-      -- the row is judged once, from the largest marked count
+      -- the count from which the row is judged is the worst cell's
+      count-judged : w .worst - 1 ≡ countAt counts (worstPlace map marks)
+      count-judged = omega (arith, worst-largest, worst-count map marks some)
+
       row-all : tableRow (w .worst - 1) area ≡ highestRow map marks
-      row-all =
-          let largest : w .worst - 1 ≡ largestMarkedCount map marks = omega (arith, worst-largest, largest-key map marks some, largest-is map marks some) in
-          ap (λ (n : ℕ). tableRow n area) largest ∙ row-of-largest-count map marks some
+      row-all = ap (λ (n : ℕ). tableRow n area) count-judged ∙ sym (highest-is map marks some)
 
       place-all : mapColumns * w .row + firstMaxBelow (λ c. keyAt counts marks (mapColumns * w .row + c)) mapColumns ≡ worstPlace map marks
       place-all =

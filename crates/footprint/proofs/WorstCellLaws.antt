@@ -1,4 +1,4 @@
--- Laws of the worst cell: cells are in the order of their keys; where a cell is marked the worst one is, no cell is worse, and it is worse than each before it.
+-- Laws of the worst cell: cells are in the order of their keys; where a cell is marked, the worst one is, has the most people and the highest row.
 use mathlib.Core.Path.{_≡_, refl, sym, ap, _∙_}
 use mathlib.Core.Bool.{true, false}
 use mathlib.Core.List.{List}
@@ -13,10 +13,12 @@ use Rattle.arithmetic.proofs.SumLaws.{le-max, first-before}
 use Rattle.arithmetic.proofs.BestLaws.{best-lt, best-is-first, first-value}
 use Rattle.map.specs.Size.{mapCells}
 use Rattle.map.specs.Map.{Map, countAt, markAt, cellsIn}
-use Rattle.footprint.specs.Footprint.{morePeople, worse, worstPlace}
+use Rattle.map.specs.TableRow.{rowAt}
+use Rattle.footprint.specs.Footprint.{highestRow, morePeople, worse, worstPlace}
 use Rattle.footprint.specs.PrivateWalk.{keyAt}
 use Rattle.map.proofs.MarkLaws.{mark-lt}
-use Rattle.footprint.proofs.CellLaws.{no-key, by-keys}
+use Rattle.map.proofs.TableRowLaws.{row-mono}
+use Rattle.footprint.proofs.CellLaws.{max-of-marked, no-key, by-keys}
 
 -- where a cell is marked, the keys aren't all 0
 pub some-key : (counts marks : List ℕ) → 0 < cellsIn marks → 0 < maxBelow (keyAt counts marks) mapCells
@@ -77,5 +79,11 @@ module _ (map : Map) (marks : List ℕ) where
     pub more-than-before : (p : ℕ) → p < worst → markAt marks p ≡ 1 → countAt (map .counts) p < countAt (map .counts) worst
     more-than-before p l e = ltb-true (countAt (map .counts) p) (countAt (map .counts) worst) (sym (both-marked worst p worst-marked e) ∙ worse-than-before p l)
 
-    pub largest-key : maxBelow key mapCells ≡ countAt (map .counts) worst + 1
-    largest-key = sym worst-key ∙ ap (λ (m : ℕ). m * (countAt (map .counts) worst + 1)) worst-marked ∙ one-mul (countAt (map .counts) worst + 1)
+    -- since the table row keeps the order of the counts
+    pub highest-is : highestRow map marks ≡ rowAt map worst
+    highest-is =
+        max-of-marked (markAt marks) (rowAt map) (mark-lt marks) mapCells worst-lt worst-marked
+        (λ p l e. row-mono (map .cell-area) (countAt (map .counts) p) (countAt (map .counts) worst) (none-more p l e))
+
+    pub worst-count : maxBelow key mapCells ≡ countAt (map .counts) worst + 1
+    worst-count = sym worst-key ∙ ap (λ (m : ℕ). m * (countAt (map .counts) worst + 1)) worst-marked ∙ one-mul (countAt (map .counts) worst + 1)
