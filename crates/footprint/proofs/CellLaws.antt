@@ -1,10 +1,10 @@
--- Laws of one cell and of sums and maxima of marked cells: keys, masks, and the table row of a key.
+-- Laws of one cell and of sums and maxima of marked cells: marks, keys and masks.
 use mathlib.Core.Path.{_≡_, refl, sym, ap, ap₂, _∙_}
 use mathlib.Core.Logic.{⊎-elim}
 use mathlib.Core.Bool.{Bool, true, not, _||_, _&&_}
 use mathlib.Core.List.{List, []}
-use Prim.Native.Nat.{ℕ, zero, suc, _+_, _-_, _*_, _/_, _%_, _^_, _≤_, _<_, zero-le, max}
-use native.Mathlib.Nat.{le-trans, not-suc-le-zero, le-of-suc-le-suc, zero-mul, one-mul, mul-le-mul-right, mod-eq-of-lt, div-div-eq-div-mul}
+use Prim.Native.Nat.{ℕ, zero, suc, _+_, _-_, _*_, _/_, _%_, _^_, _≤_, _<_, max}
+use native.Mathlib.Nat.{le-of-eq, le-antisymm, le-trans, zero-mul, one-mul, mul-le-mul-right, mod-eq-of-lt, div-div-eq-div-mul}
 use native.Mathlib.Numerals.{add-one}
 use native.Mathlib.Omega.{arith}
 use borrow.Author.Tests.{lt-ltb, le-ltb, eqb-true}
@@ -18,10 +18,8 @@ use mir.Val.{toZ}
 use mir.ValLaws.{toZ-pos}
 use Rattle.arithmetic.specs.SumsAndMaxima.{sumBelow, maxBelow}
 use Rattle.arithmetic.proofs.TestLaws.{lt-or-le, allBelow, all-below}
-use Rattle.arithmetic.proofs.SumLaws.{max-same, max-map}
+use Rattle.arithmetic.proofs.SumLaws.{max-le, le-max}
 use Rattle.map.specs.Map.{largestCount, bitAt}
-use Rattle.map.specs.TableRow.{tableRow}
-use Rattle.map.proofs.TableRowLaws.{row-mono}
 use Rattle.footprint.specs.PrivateWalk.{Masks, maskOf}
 
 -- ---- marks
@@ -35,6 +33,18 @@ marked-le m x h = let le : m ≤ 1 = omega arith in omega (arith, mul-le-mul-rig
 
 pub key-le : (m x : ℕ) → m < 2 → x ≤ largestCount → m * (x + 1) ≤ largestCount + 1
 key-le m x h l = le-trans (marked-le m (x + 1) h) (omega arith)
+
+-- where no marked index has more than the marked index q, the largest of f over the marked ones is that of q
+pub max-of-marked : (mark f : ℕ → ℕ) → ((i : ℕ) → mark i < 2) → (n : ℕ) {q : ℕ} → q < n → mark q ≡ 1
+    → ((p : ℕ) → p < n → mark p ≡ 1 → f p ≤ f q) → maxBelow (λ p. mark p * f p) n ≡ f q
+max-of-marked mark f bit n {q} l m most =
+    le-antisymm (max-le (λ p. mark p * f p) (f q) n (λ p k. each (mark p) (f p) (bit p) (most p k)))
+    (le-trans (le-of-eq (sym (ap (λ (x : ℕ). x * f q) m ∙ one-mul (f q)))) (le-max (λ p. mark p * f p) n q l))
+  where
+    each : (k x : ℕ) → k < 2 → (k ≡ 1 → x ≤ f q) → k * x ≤ f q
+    each zero x h b = omega arith
+    each (suc zero) x h b = omega (arith, b refl)
+    each (suc (suc k)) x h b = let wrong : ⊥ = omega arith in absurd wrong
 
 module _ (mark count : ℕ → ℕ) where
   -- where no key is above 0, nothing is marked
@@ -109,28 +119,3 @@ or-larger (suc (suc a)) b h l = let wrong : ⊥ = omega arith in absurd wrong
 pub or-four : (a b c d : ℕ) → a < 2 → b < 2 → c < 2 → d < 2 → bitOr (bitOr (bitOr a b) c) d ≡ max (max (max a b) c) d
 or-four a b c d ha hb hc hd =
     rw (or-larger a b ha hb, or-larger (max a b) c (omega arith) hc) (or-larger (max (max a b) c) d (omega arith) hd)
-
--- ---- the table row of a key
-
-module _ (area : ℕ) where
-  -- the table row of a key: of the count one less, and 0 where nothing is marked
-  abbrev pub rowOfKey : ℕ → ℕ
-  rowOfKey zero = 0
-  rowOfKey (suc k) = tableRow k area
-
-  key-mono : (x y : ℕ) → x ≤ y → rowOfKey x ≤ rowOfKey y
-  key-mono zero y l = zero-le
-  key-mono (suc x) zero l = absurd (not-suc-le-zero l)
-  key-mono (suc x) (suc y) l = row-mono area x y (le-of-suc-le-suc l)
-
-  -- the row of the largest key is the highest row among marked cells
-  pub row-of-largest : (mark count : ℕ → ℕ) → ((i : ℕ) → mark i < 2) → (n : ℕ)
-      → maxBelow (λ i. mark i * tableRow (count i) area) n ≡ rowOfKey (maxBelow (λ i. mark i * (count i + 1)) n)
-  row-of-largest mark count bit n =
-      max-same (λ i. mark i * tableRow (count i) area) (λ i. rowOfKey (mark i * (count i + 1))) n (λ i l. each (mark i) (count i) (bit i))
-      ∙ max-map (λ i. mark i * (count i + 1)) rowOfKey refl key-mono n
-    where
-      each : (m x : ℕ) → m < 2 → m * tableRow x area ≡ rowOfKey (m * (x + 1))
-      each zero x h = simp zero-mul
-      each (suc zero) x h = simp (one-mul, add-one)
-      each (suc (suc m)) x h = let wrong : ⊥ = omega arith in absurd wrong

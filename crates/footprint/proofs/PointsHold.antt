@@ -21,7 +21,7 @@ use Rattle.map.specs.Refusals.{wrongLengths, wrongCount, noMark, mapTests}
 use Rattle.footprint.specs.Footprint.{peopleAt, highestRow, worstPlace, peopleIn, refusedFootprint, acceptedFootprint, footprintOf}
 use Rattle.footprint.specs.PrivateWalk.{keyAt}
 use Rattle.footprint.specs.Points.{P16Map, P16Footprint}
-use Rattle.footprint.proofs.WalkLaws as law
+use Rattle.footprint.proofs.WorstCellLaws as law
 
 -- the other columns of a row with the westernmost cell marked
 other-columns : (c : ℕ) → c < 63 → bitAt (2 ^ 63) (suc c) ≡ 0

@@ -1,29 +1,24 @@
 -- The promises of specs/Promises.antt hold.
 use mathlib.Core.Path.{_≡_, refl, sym, ap, _∙_}
 use mathlib.Core.List.{List}
-use Prim.Native.Nat.{ℕ, zero, suc, _+_, _*_, _^_, _≤_, _<_}
-use native.Mathlib.Nat.{le-of-eq, le-trans, le-of-suc-le-suc, mul-le-mul, one-mul}
-use native.Mathlib.Numerals.{add-one}
+use Prim.Native.Nat.{ℕ, _*_, _^_, _≤_, _<_}
+use native.Mathlib.Nat.{le-of-eq, le-trans, le-of-suc-le-suc, mul-le-mul}
 use native.Mathlib.Omega.{arith}
-use borrow.Author.Tests.{lt-ltb}
 use lib.ListN.{getD}
-use Rattle.arithmetic.specs.SumsAndMaxima.{maxBelow}
-use Rattle.arithmetic.specs.PrivateFirstMaximum.{firstMaxBelow}
 use Rattle.arithmetic.proofs.RefusalsHold.{answer-promise}
-use Rattle.arithmetic.proofs.SumLaws.{sum-le, sum-mono, max-mono, le-max, first-lt, first-at, first-before}
+use Rattle.arithmetic.proofs.SumLaws.{sum-le, sum-mono, max-mono}
 use Rattle.map.specs.Size.{mapCells, mapRows}
 use Rattle.map.specs.Map.{largestCount, Map, countAt, markAt}
 use Rattle.map.specs.TableRow.{tableRow, rowAt}
 use Rattle.map.specs.Refusals.{mapTests}
-use Rattle.footprint.specs.Footprint.{peopleAt, acceptedFootprint, footprintOf}
-use Rattle.footprint.specs.PrivateWalk.{keyAt}
+use Rattle.footprint.specs.Footprint.{worstPlace, peopleAt, acceptedFootprint, footprintOf}
 use Rattle.footprint.specs.Promises.{FootprintAnswer, AcceptedInput, FootprintRanges, WorstCell, SetBits, FootprintPromise, Monotone}
 use Rattle.footprint.specs.declared.Footprint.{Footprint}
 use Rattle.map.proofs.TableRowLaws.{row-mono, row-ge, row-le}
 use Rattle.map.proofs.MarkLaws.{mark-lt, cells-are-ones}
 use Rattle.map.proofs.TestsPassed.{Passed, passed, counts-small}
-use Rattle.footprint.proofs.CellLaws.{marked-le, rowOfKey, row-of-largest}
-use Rattle.footprint.proofs.WalkLaws.{place-is, some-place}
+use Rattle.footprint.proofs.CellLaws.{marked-le}
+use Rattle.footprint.proofs.WorstCellLaws.{worst-lt, worst-marked, none-more, more-than-before, highest-is}
 
 pub answer : (map : Map) (marks : List ℕ) → FootprintAnswer map marks
 unfolding footprintOf
@@ -50,42 +45,16 @@ module _ (map : Map) (marks : List ℕ) (ok : footprintOf map marks .refusal ≡
 
   -- ---- the worst cell
 
-  abbrev worst : ℕ
-  worst = firstMaxBelow (keyAt (map .counts) marks) mapCells
-
-  worst-place : footprintOf map marks .place ≡ worst
-  worst-place = ap (λ (f : Footprint). f .place) found-is ∙ place-is map marks
-
-  some-key : 0 < maxBelow (keyAt (map .counts) marks) mapCells
-  some-key = some-place (map .counts) marks (known .some-cell)
-
-  worst-marked : markAt marks worst ≡ 1
-  worst-marked =
-      is-one (markAt marks worst) (countAt (map .counts) worst) (mark-lt marks worst)
-      (le-trans some-key (le-of-eq (sym (first-at (keyAt (map .counts) marks) mapCells some-key))))
-    where
-      is-one : (m x : ℕ) → m < 2 → 0 < m * (x + 1) → m ≡ 1
-      is-one zero x h l = let wrong : ⊥ = omega arith in absurd wrong
-      is-one (suc m) x h l = omega arith
-
-  marked-key : (p : ℕ) → markAt marks p ≡ 1 → keyAt (map .counts) marks p ≡ countAt (map .counts) p + 1
-  marked-key p e = ap (λ (m : ℕ). m * (countAt (map .counts) p + 1)) e ∙ one-mul (countAt (map .counts) p + 1)
-
-  worst-key : maxBelow (keyAt (map .counts) marks) mapCells ≡ countAt (map .counts) worst + 1
-  worst-key = sym (first-at (keyAt (map .counts) marks) mapCells some-key) ∙ marked-key worst worst-marked
+  worst-place : footprintOf map marks .place ≡ worstPlace map marks
+  worst-place = ap (λ (f : Footprint). f .place) found-is
 
   pub worst-cell : WorstCell map marks
-  worst-cell =
-      record {
-        marked = ap (markAt marks) worst-place ∙ worst-marked;
-        largest = λ p l e. rw worst-place (omega (arith, le-max (keyAt (map .counts) marks) mapCells p l, marked-key p e, worst-key));
-        first = λ p l e. rw worst-place
-            (omega (arith, first-before (keyAt (map .counts) marks) mapCells p (rw worst-place at l), marked-key p e, worst-key));
-        row = ap (λ (f : Footprint). f .row) found-is
-            ∙ row-of-largest (map .cell-area) (markAt marks) (countAt (map .counts)) (mark-lt marks) mapCells
-            ∙ ap (rowOfKey (map .cell-area)) (worst-key ∙ add-one (countAt (map .counts) worst))
-            ∙ sym (ap (rowAt map) worst-place);
-      }
+  worst-cell = record {
+    marked = rw worst-place (worst-marked map marks (known .some-cell));
+    largest = λ p l e. rw worst-place (none-more map marks (known .some-cell) p l e);
+    first = λ p l e. rw worst-place (more-than-before map marks (known .some-cell) p (rw worst-place at l) e);
+    row = ap (λ (f : Footprint). f .row) found-is ∙ highest-is map marks (known .some-cell) ∙ sym (ap (rowAt map) worst-place);
+  }
 
   -- ---- ranges
 
@@ -96,7 +65,7 @@ module _ (map : Map) (marks : List ℕ) (ok : footprintOf map marks .refusal ≡
       record {
         row-ge = rw (worst-cell .row) (row-ge (map .cell-area) _);
         row-le = rw (worst-cell .row) (row-le (map .cell-area) _);
-        place-lt = rw worst-place (first-lt (keyAt (map .counts) marks) mapCells (omega arith));
+        place-lt = rw worst-place (worst-lt map marks);
         people-le = rw people (sum-le (peopleAt (map .counts) marks) largestCount mapCells
             (λ p l. le-trans (marked-le (markAt marks p) (countAt (map .counts) p) (mark-lt marks p)) (counts-small (map .counts) (known .counts-in) p l)));
         cells-ge = rw cells (known .some-cell);

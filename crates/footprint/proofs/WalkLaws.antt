@@ -1,9 +1,9 @@
--- Laws of the walk: a map row lent as a part, the map with one row more, and the answer from the whole.
+-- Laws of the walk: a map row lent as a part, the map with one row more, the first worst row, and the answer from the whole.
 use mathlib.Core.Path.{_≡_, refl, sym, ap, ap₂, _∙_}
 use mathlib.Core.Bool.{Bool, true, false, cond}
 use mathlib.Core.List.{List}
 use Prim.Native.Nat.{ℕ, zero, suc, _+_, _-_, _*_, _^_, _≤_, _<_}
-use native.Mathlib.Nat.{le-of-eq, le-trans, le-of-suc-le-suc}
+use native.Mathlib.Nat.{le-trans, le-of-suc-le-suc}
 use native.Mathlib.Omega.{arith}
 use borrow.Author.Tests.{lt-ltb, ne-eqb}
 use lib.Dec.{ltb, eqb}
@@ -19,14 +19,15 @@ use Rattle.map.specs.Size.{mapCells, mapRows, mapColumns}
 use Rattle.map.specs.Map.{largestCount, Map, countAt, bitAt, markAt, cellsIn}
 use Rattle.map.specs.TableRow.{tableRow}
 use Rattle.map.specs.Refusals.{wrongCount}
-use Rattle.footprint.specs.Footprint.{peopleAt, highestRow, worse, worstPlace, acceptedFootprint}
+use Rattle.footprint.specs.Footprint.{peopleAt, highestRow, worstPlace, acceptedFootprint}
 use Rattle.footprint.specs.PrivateWalk.{keyMax, keyAt, rowKey, markedCount, keyAbove, rowWalk, withRow, largestKeyIn, rowWorse, worstRow, mapWalk}
 use Rattle.footprint.specs.declared.row.RowWalk.{RowWalk}
 use Rattle.footprint.specs.declared.walk.MapWalk.{MapWalk}
 use Rattle.map.proofs.MarkLaws.{mark-lt, mark-here}
 use Rattle.map.proofs.TestsPassed.{counts-small}
-use Rattle.footprint.proofs.CellLaws.{marked-le, key-le, no-key, by-keys, rowOfKey, row-of-largest}
+use Rattle.footprint.proofs.CellLaws.{marked-le, key-le}
 use Rattle.footprint.proofs.RowLaws.{above-pos, above-taken}
+use Rattle.footprint.proofs.WorstCellLaws.{some-key, place-is, highest-is, worst-count}
 
 -- ---- a map row lent as a part of the map's counts
 
@@ -139,38 +140,21 @@ module _ (counts marks : List ℕ) where
         omega (arith, ap (λ (x : MapWalk). x .cells) map-next, sum-le (markAt marks) 1 (mapColumns * (r + 1)) (λ i m. le-of-suc-le-suc (mark-lt marks i))),
       )
 
--- ---- the order of all cells by their keys
-
--- a cell is worse exactly where its key is larger
-pub worse-by-key : (map : Map) (marks : List ℕ) (q p : ℕ) → worse map marks q p ≡ ltb (keyAt (map .counts) marks p) (keyAt (map .counts) marks q)
-worse-by-key map marks q p =
-    by-keys (markAt marks q) (markAt marks p) (countAt (map .counts) q) (countAt (map .counts) p) (mark-lt marks q) (mark-lt marks p)
-
-pub place-is : (map : Map) (marks : List ℕ) → worstPlace map marks ≡ firstMaxBelow (keyAt (map .counts) marks) mapCells
-place-is map marks = best-is-first (worse map marks) (keyAt (map .counts) marks) mapCells (λ q p hq hp. worse-by-key map marks q p)
+-- ---- the first worst row
 
 module _ (counts marks : List ℕ) where
   row-is : worstRow counts marks mapRows ≡ firstMaxBelow (largestKeyIn counts marks) mapRows
   row-is = best-is-first (rowWorse counts marks) (largestKeyIn counts marks) mapRows (λ q p hq hp. refl)
 
-  -- where a cell is marked, the keys aren't all 0
-  module _ (some : 0 < cellsIn marks) where
-    pub some-place : 0 < maxBelow (keyAt counts marks) mapCells
-    some-place = by-cases (maxBelow (keyAt counts marks) mapCells) refl
-      where
-        by-cases : (n : ℕ) → maxBelow (keyAt counts marks) mapCells ≡ n → 0 < maxBelow (keyAt counts marks) mapCells
-        by-cases zero e = let wrong : ⊥ = omega (arith, no-key (markAt marks) (countAt counts) mapCells e) in absurd wrong
-        by-cases (suc n) e = omega arith
+  -- the first worst cell is in it
+  first-by-row : 0 < cellsIn marks → firstMaxBelow (keyAt counts marks) mapCells ≡ firstInRow (keyAt counts marks) mapColumns (worstRow counts marks mapRows)
+  first-by-row some =
+      first-rows (keyAt counts marks) mapColumns mapRows (some-key counts marks some)
+      ∙ ap (firstInRow (keyAt counts marks) mapColumns) (sym row-is)
 
-    -- the first worst cell is in the first worst row
-    pub first-by-row : firstMaxBelow (keyAt counts marks) mapCells ≡ firstInRow (keyAt counts marks) mapColumns (worstRow counts marks mapRows)
-    first-by-row =
-        first-rows (keyAt counts marks) mapColumns mapRows some-place
-        ∙ ap (firstInRow (keyAt counts marks) mapColumns) (sym row-is)
-
-    pub row-largest : largestKeyIn counts marks (worstRow counts marks mapRows) ≡ maxBelow (keyAt counts marks) mapCells
-    row-largest =
-        ap (largestKeyIn counts marks) row-is ∙ first-value (largestKeyIn counts marks) mapRows (omega arith) ∙ max-rows (keyAt counts marks) mapColumns mapRows
+  row-largest : largestKeyIn counts marks (worstRow counts marks mapRows) ≡ maxBelow (keyAt counts marks) mapCells
+  row-largest =
+      ap (largestKeyIn counts marks) row-is ∙ first-value (largestKeyIn counts marks) mapRows (omega arith) ∙ max-rows (keyAt counts marks) mapColumns mapRows
 
 -- ---- the answer, from the walk over all rows of a map that isn't refused
 
@@ -188,22 +172,23 @@ module _ (counts marks : List ℕ) {w : MapWalk} (w-is : w ≡ mapWalk counts ma
   pub worst-is : w .worst ≡ maxBelow (rowKey (lent counts marks (w .row)) (getD marks (w .row) 0)) mapColumns
   worst-is = worst-all ∙ sym (worst-here counts marks (w .row))
 
-  module _ (some : 0 < cellsIn marks) where
-    worst-largest : w .worst ≡ maxBelow (keyAt counts marks) mapCells
-    worst-largest = ap (λ (x : MapWalk). x .worst) w-is ∙ row-largest counts marks some
+  worst-largest : w .worst ≡ maxBelow (keyAt counts marks) mapCells
+  worst-largest = ap (λ (x : MapWalk). x .worst) w-is ∙ row-largest counts marks
 
+  module _ (some : 0 < cellsIn marks) where
     pub worst-pos : 0 < w .worst
-    worst-pos = le-trans (some-place counts marks some) (le-of-eq (sym worst-largest))
+    worst-pos = omega (arith, some-key counts marks some, worst-largest)
 
     module _ (area : ℕ) where
       abbrev map : Map
       map = record { counts = counts; cell-area = area }
 
+      -- the count from which the row is judged is the worst cell's
+      count-judged : w .worst - 1 ≡ countAt counts (worstPlace map marks)
+      count-judged = omega (arith, worst-largest, worst-count map marks some)
+
       row-all : tableRow (w .worst - 1) area ≡ highestRow map marks
-      row-all =
-          let e : suc (w .worst - 1) ≡ w .worst = omega (arith, worst-pos) in
-          ap (rowOfKey area) (e ∙ worst-largest)
-          ∙ sym (row-of-largest area (markAt marks) (countAt counts) (mark-lt marks) mapCells)
+      row-all = ap (λ (n : ℕ). tableRow n area) count-judged ∙ sym (highest-is map marks some)
 
       place-all : mapColumns * w .row + firstMaxBelow (λ c. keyAt counts marks (mapColumns * w .row + c)) mapColumns ≡ worstPlace map marks
       place-all =

@@ -1,4 +1,5 @@
 pub mod Footprint
+pub mod RowOfLargestCount
 pub mod Promises
 pub mod Points
 pub mod PrivateWalk
