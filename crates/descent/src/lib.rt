@@ -4,9 +4,15 @@ ghost use Prim.Native.Nat.{_≤_};
 ghost use Rattle.frontal_area.specs.FrontalArea.{frontalArea};
 ghost use Rattle.descent.specs.Descent.{bodyOf, firstState, speedNegative, groundReached, landed, refusedDescent, fallFrom, fallOf, descentOf};
 
+mod predict;
 mod step;
 
+use crate::predict::Progress;
+use crate::predict::Speeds;
+use crate::predict::confirmed_steps;
+use crate::predict::with_latest;
 use crate::step::Body;
+use crate::step::speed;
 use crate::step::step;
 use frontal_area::frontal_area;
 use frontal_area::multirotor_refusal;
@@ -62,21 +68,36 @@ fn landed_after(steps: u32, end: Fall) -> Descent
     }
 }
 
-// The fall from a first state, of at most so many steps as the budget has.
+// The fall from a first state, of at most so many steps as the budget has. Here each step is taken that a prediction didn't foresee, and
+// every one that ends the fall.
 fn fall_from(b: Body, height: f64, budget: u32, first: Fall) -> Descent
     ensures { λ r. ⌜ r ≡ fallFrom b height budget 0 first ⌝ }
 {
-    let mut s = first;
-    let mut n: u32 = 0;
-    while n < budget {
-        s = step(b, s);
-        n += 1;
-        if (s.horizontal < 0.0) | (s.downward < 0.0) {
+    let mut at = Progress {
+        state: first,
+        steps: 0,
+        speeds: Speeds(0.0, 0.0, 0.0, 0.0, 0.0),
+    };
+    while at.steps < budget {
+        let state = step(b, at.state);
+        let steps = at.steps + 1;
+        if (state.horizontal < 0.0) | (state.downward < 0.0) {
             return refused_with(19);
         }
-        if s.fallen >= height {
-            return landed_after(n, s);
+        if state.fallen >= height {
+            return landed_after(steps, state);
         }
+        let speeds = with_latest(at.speeds, speed(at.state));
+        at = confirmed_steps(
+            b,
+            height,
+            budget,
+            Progress {
+                state,
+                steps,
+                speeds,
+            },
+        );
     }
     refused_with(18)
 }

@@ -16,18 +16,24 @@ fn next_guess(sum: f64, guess: f64) -> f64
     (guess + sum / guess) * 0.5
 }
 
+// Six rounds. One that returns its guess would return it again, so that the rest is left out.
 fn six_rounds(sum: f64, first: f64) -> f64
     ensures { λ r. ⌜ r ≡ afterRounds 6 sum first ⌝ }
 {
-    let one = next_guess(sum, first);
-    let two = next_guess(sum, one);
-    let three = next_guess(sum, two);
-    let four = next_guess(sum, three);
-    let five = next_guess(sum, four);
-    next_guess(sum, five)
+    let mut guess = next_guess(sum, first);
+    let mut n: u32 = 1;
+    while n < 6 {
+        let next = next_guess(sum, guess);
+        if next == guess {
+            return next;
+        }
+        guess = next;
+        n += 1;
+    }
+    guess
 }
 
-fn speed(s: Fall) -> f64
+pub fn speed(s: Fall) -> f64
     ensures { λ r. ⌜ r ≡ speedOf s ⌝ }
 {
     if (s.horizontal == 0.0) & (s.downward == 0.0) {
