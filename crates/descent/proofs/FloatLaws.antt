@@ -68,7 +68,7 @@ same-or-zero (fin s m e) (fin t n d) f g h z = by-signs s t f g (equal .0) (equa
 
 -- ---- numbers above zero
 
-zero-made : whole 0 ≡ fin false 0 (pos 0)
+pub zero-made : whole 0 ≡ fin false 0 (pos 0)
 unfolding ofInt round size span climb units odd trailingZeros
 zero-made = refl
 
@@ -83,6 +83,10 @@ above-not-zero y l = made y (ap (λ (x : Float). lt x y) (sym zero-made) ∙ l)
     made (fin false zero e) l = absurd (omega (arith, ltb-true (0 * 1 * down e) (0 * up e * 1) l))
     made (fin false (suc m) e) l = ne-eqb (suc m) 0 (λ z. absurd (omega arith))
 
+pub finite-not-below : (m : ℕ) (e : ℤ) → lt (fin false m e) (fin false 0 (pos 0)) ≡ false
+unfolding lt
+finite-not-below m e = le-ltb (m * up e * 1) (0 * 1 * down e) (omega arith)
+
 pub above-not-below : (y : Float) → lt (whole 0) y ≡ true → lt y (whole 0) ≡ false
 unfolding lt
 above-not-below y l = ap (lt y) zero-made ∙ made y (ap (λ (x : Float). lt x y) (sym zero-made) ∙ l)
@@ -92,7 +96,7 @@ above-not-below y l = ap (lt y) zero-made ∙ made y (ap (λ (x : Float). lt x y
     made (inf true) l = absurd (false≢true l)
     made (inf false) l = refl
     made (fin true m e) l = absurd (false≢true l)
-    made (fin false m e) l = le-ltb (m * up e * 1) (0 * 1 * down e) (omega arith)
+    made (fin false m e) l = finite-not-below m e
 
 -- an f64 that compares as equal with one above zero is that one
 pub same-above-zero : (x y : Float) → T (fits binary64 x) → T (fits binary64 y) → eq x y ≡ true → lt (whole 0) y ≡ true → x ≡ y

@@ -3,10 +3,11 @@ use mathlib.Core.Path.{_≡_}
 use mathlib.Core.Logic.{_⊎_, _↔_}
 use mathlib.Core.Bool.{true, false, cond}
 use mathlib.Core.List.{List, [], _∷_}
-use Prim.Native.Nat.{ℕ, _≤_, _<_}
+use Prim.Native.Nat.{ℕ, _^_, _≤_, _<_}
+use Rattle.arithmetic.specs.Fraction.{_over_}
 use Rattle.arithmetic.specs.Refusals.{FirstToHold, OneOf, numbers}
 use Rattle.frontal_area.specs.FrontalArea.{MultirotorInRange}
-use Rattle.descent.specs.Numbers.{inMetres}
+use Rattle.descent.specs.Numbers.{decimal, dividedBy, inMetres}
 use Rattle.descent.specs.Step.{stateAfter}
 use Rattle.descent.specs.Descent.{bodyOf, firstState, speedNegative, groundReached, above60, refusedDescent, heightMax, budgetMax, descentTests, descentOf}
 use Rattle.descent.specs.declared.Fall.{Fall}
@@ -75,6 +76,11 @@ pub record BudgetLaw (w m v height budget more : ℕ) : Type 0 where
   pub accepted : descentOf w m v height budget .refusal ≡ 0 → descentOf w m v height more ≡ descentOf w m v height budget
   pub refused-19 : descentOf w m v height budget .refusal ≡ 19 → descentOf w m v height more ≡ descentOf w m v height budget
 
+-- an input in metres, kilograms or square metres is the f64 nearest to the exact fraction
+abbrev pub DivisionNearest : ℕ → ℕ → Type 0
+DivisionNearest n d = dividedBy d n ≡ decimal (n over d)
+
 pub record DescentLaws : Type 0 where
+  pub division : (n d : ℕ) → n ≤ 2 ^ 53 → 0 < d → d ≤ 2 ^ 53 → DivisionNearest n d
   pub promise : (w m v height budget : ℕ) → DescentPromise w m v height budget (descentOf w m v height budget)
   pub budget : (w m v height budget more : ℕ) → budget ≤ more → more ≤ budgetMax → BudgetLaw w m v height budget more
