@@ -22,6 +22,10 @@ FALLS = (
         (1_000, 25_000, 2_500, 12_000, 20_000),)),
     ("with a frontal area that is rounded down, from 30 m", (
         (8_001, 60_000, 1_500, 3_000, 20_000),)),
+    ("light and wide: drag takes so much of the speeds in each step that its last bits show", (
+        (23_336, 143, 164, 2, 20_000), (19_486, 118, 69, 5, 20_000), (13_830, 109, 182, 9, 20_000))),
+    ("in the last step five rounds would find another speed than six, and the end state shows it", (
+        (20_690, 836, 157, 4, 20_000),)),
     ("the last height that isn't above 60 degrees, and the first that is", (
         (1_000, 2_000, 200, 56, 20_000), (1_000, 2_000, 200, 57, 20_000))),
     ("the downward speed squared is exactly 3 × the horizontal speed squared", (

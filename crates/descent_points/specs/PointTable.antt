@@ -16,6 +16,16 @@ points =
     -- with a frontal area that is rounded down, from 30 m
     -- it ends with 6.04716 m/s forward, 17.8542 m/s down, 30.0393 m fallen
     ∷ landed 8001 60000 1500 3000 20000 (fall 0x4020_709b_ed55_b2f5 0x402d_452a_b901_d022 0x4030_48bd_1965_dd9d ∷ []) 1 284 (fall 0x4018_304b_7207_3749 0x4031_daaf_0da3_60b2 0x403e_0a0c_9e54_174d)
+    -- light and wide: drag takes so much of the speeds in each step that its last bits show
+    -- it ends with 0.074588 m/s forward, 0.418507 m/s down, 0.0218598 m fallen
+    ∷ landed 23336 143 164 2 20000 [] 1 8 (fall 0x3fb3_1832_9d53_a4cb 0x3fda_c8d2_4a2d_5e80 0x3f96_626b_51ac_690c)
+    -- it ends with 0.0170728 m/s forward, 0.441156 m/s down, 0.0513438 m fallen
+    ∷ landed 19486 118 69 5 20000 [] 1 15 (fall 0x3f91_7b8b_8409_555c 0x3fdc_3be7_a552_0cf9 0x3faa_49ba_6eec_c72a)
+    -- it ends with 0.0152668 m/s forward, 0.543722 m/s down, 0.0902334 m fallen
+    ∷ landed 13830 109 182 9 20000 [] 1 21 (fall 0x3f8f_4439_c489_ac58 0x3fe1_662c_8cda_4356 0x3fb7_198a_0bc5_bbaf)
+    -- in the last step five rounds would find another speed than six, and the end state shows it
+    -- it ends with 0.593171 m/s forward, 0.75169 m/s down, 0.0465232 m fallen
+    ∷ landed 20690 836 157 4 20000 [] 0 11 (fall 0x3fe2_fb40_c68d_23ff 0x3fe8_0dd8_6429_f152 0x3fa7_d1e3_f5b4_4cbf)
     -- the last height that isn't above 60 degrees, and the first that is
     -- it ends with 1.95606 m/s forward, 3.29537 m/s down, 0.563073 m fallen
     ∷ landed 1000 2000 200 56 20000 [] 0 34 (fall 0x3fff_4c05_2817_8fc7 0x400a_5cec_3409_5bf0 0x3fe2_04b2_3ff3_3573)
