@@ -115,7 +115,16 @@ def near_60_degrees(source):
     return w, m, v, min(g.HEIGHT_RANGE[1], max(1, int(100 * before) + source.choice((0, 1)))), 20_000
 
 
-DRAWS = (any_descent, landing, near_the_budget, near_stopping, near_60_degrees)
+def decided_by_rounding(source):
+    """The distance is exactly the height, the angle exactly 60 degrees, or the sixth round changes the last step."""
+    w, m, v, height, _ = source.choice(AT_HEIGHT + AT_60)
+    if source.random() < 0.4:
+        w, m, v, steps = source.choice(SIXTH_ROUND)
+        height = max(1, int(100 * next(islice(g.states(w, m, v), steps + 1, None)).fallen))
+    return w, m, v, height, 20_000
+
+
+DRAWS = (any_descent, landing, near_the_budget, near_stopping, near_60_degrees, decided_by_rounding)
 
 
 def descents(source):
