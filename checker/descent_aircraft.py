@@ -37,9 +37,8 @@ AT_60 = (
     (20_372, 11_836_308, 465, 329, 82),
 )
 
-# Five rounds find another speed than six at the state after so many steps: dimension, mass, speed, steps. Of states with both speeds
-# within a quarter of each other one in some hundred million is such; elsewhere they are rarer still. The first two show in the next
-# state.
+# Five rounds find another speed than six at the state after so many steps: dimension, mass, speed, steps. Where both speeds are about
+# the same, 2 of 500 million drawn states were such; elsewhere they are rarer still. The first two show in the next state.
 SIXTH_ROUND = (
     (20_690, 836, 157, 10),
     (25_253, 1_207, 211, 12),

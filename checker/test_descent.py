@@ -70,17 +70,22 @@ def worked_speed(x, y, rounds=6):
     return guess
 
 
-def worked_step(state, area, mass):
+def worked_step(state, area, mass, rounds=6):
     x, y, z = state
-    drag = times(HALF, AIR, area, COEFFICIENT, worked_speed(x, y))
+    drag = times(HALF, AIR, area, COEFFICIENT, worked_speed(x, y, rounds))
     new_x = less(x, times(over(times(drag, x), mass), STEP))
     new_y = added(y, times(less(GRAVITY, over(times(drag, y), mass)), STEP))
     return new_x, new_y, added(z, times(HALF, added(y, new_y), STEP))
 
 
+def worked_units(w, m):
+    """Square metres and kilograms."""
+    return over(Fraction(quick_frontal_area(w)), 10 ** 6), over(Fraction(m), 1_000)
+
+
 def worked_states(w, m, v):
     """The states as fractions, without end."""
-    area, mass = over(Fraction(quick_frontal_area(w)), 10 ** 6), over(Fraction(m), 1_000)
+    area, mass = worked_units(w, m)
     state = over(Fraction(v), 100), Fraction(0), Fraction(0)
     while True:
         yield state
@@ -162,13 +167,15 @@ class SpeedTest(unittest.TestCase):
 
 
     def test_the_sixth_round(self):
-        for w, m, v, steps in descent_aircraft.SIXTH_ROUND:
+        for place, (w, m, v, steps) in enumerate(descent_aircraft.SIXTH_ROUND):
             state = state_after(steps, w, m, v)
             five, six, seven = (worked_speed(*as_fractions(state)[:2], rounds) for rounds in (5, 6, 7))
             self.assertEqual(Fraction(g.speed_of(state)), six)
             self.assertNotEqual(five, six)
             self.assertEqual(seven, six)
             self.assertEqual(next(islice(worked_states(w, m, v), steps, None)), as_fractions(state))
+            after = {worked_step(as_fractions(state), *worked_units(w, m), rounds) for rounds in (5, 6)}
+            self.assertEqual(len(after), 2 if place < 2 else 1)
 
 
 class StepTest(unittest.TestCase):
@@ -217,7 +224,7 @@ class StepTest(unittest.TestCase):
             self.assertEqual((answer.refusal, answer.above_60), (0, 1))
             self.assertTrue(0 < answer.end.horizontal < 2 ** -1022)
             # the last steps again, from a state well before
-            area, mass = over(Fraction(quick_frontal_area(w)), 10 ** 6), over(Fraction(m), 1_000)
+            area, mass = worked_units(w, m)
             worked = as_fractions(state_after(answer.steps - 80, w, m, v))
             self.assertGreater(worked[0], Fraction(1, 2 ** 1022))
             for _ in range(80):
