@@ -219,8 +219,10 @@ class InstalledTest(unittest.TestCase):
             ran = self.run_program(ROOT / program, *numbers.split())
             self.assertEqual((ran.returncode, ran.stdout), (0, shown.replace("    ", "")))
 
-    def test_version_messages_and_nothing_lent(self):
-        wanted = [f"{NUMBER} {NUMBER}", *messages(), "5", "5", "13", "15"]
+    def test_version_messages_a_descent_and_nothing_lent(self):
+        refusal, above_60, steps, end = g.descent(1_100, 15_000, 2_500, 5_740, g.BUDGET_RANGE[1])
+        descent = " ".join(format(number, ".17g") for number in (refusal, above_60, steps, *end))
+        wanted = [f"{NUMBER} {NUMBER}", *messages(), descent, "5", "5", "13", "15"]
         for compiler in ([CC, "-std=c99"], [CXX, "-x", "c++", "-std=c++98", "-Wno-long-long"], [CXX, "-x", "c++", "-std=c++17"]):
             program = self.built("consumer", ROOT / "console/tests/consumer.c", *compiler)
             self.assertEqual(self.run_program(program).stdout.splitlines(), wanted)
