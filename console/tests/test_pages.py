@@ -144,7 +144,7 @@ class ReadmeTest(unittest.TestCase):
             re.search(r"From ([\d,]+ cm the fall ends after [\d,]+ steps) and isn't above", README)[1])
         self.assertEqual((shown.refusal, shown.above_60), (0, 1))
         self.assertIn(f"strikes the ground after {shown.steps / 100:.2f} seconds, {shown.steps} steps\n", README)
-        self.assertIn(f"never operates lower than {height / 100:.2f} m.", README)
+        self.assertIn(f"its lowest operating height {height / 100:.2f} m, may use that model.", README)
         below = g.descent(*aircraft, lower, budget)
         self.assertEqual((below.refusal, below.above_60, below.steps, lower), (0, 0, steps, height - 1))
 
