@@ -198,7 +198,7 @@ class TrustTest(unittest.TestCase):
     def test_the_stack(self):
         said = stack.said_in(HEADER)
         listed = re.search(r"at most (.*?) \|", TRUST)[1]
-        found = {name: int(number) for number, names in re.findall(r"(\d+)(?: bytes for)? ((?:`nb_\w+`(?: and )?)+)", listed)
+        found = {name: int(number) for number, names in re.findall(r"(\d+)(?: bytes for)? ((?:`nb_\w+`(?:, | and )?)+)", listed)
                  for name in re.findall(r"nb_\w+", names)}
         self.assertEqual(found, said)
 
