@@ -83,8 +83,8 @@ $(SHARED): $(ARCHIVE) console/library/exports.map
 $(PROGRAM): console/program/nuggetbay-case.c $(ARCHIVE) $(HEADER)
 	$(CC) $(LIBRARY_CFLAGS) -D_DEFAULT_SOURCE -Iconsole/include $< $(ARCHIVE) -o $@
 
-# the examples: case for console/run-case, high_angle for README
-$(MADE)/case-in-words $(MADE)/high_angle-in-words: $(MADE)/%-in-words: console/examples/%.c $(ARCHIVE) $(HEADER)
+# the examples: case for console/run-case, the others for README
+$(MADE)/case-in-words $(MADE)/high_angle-in-words $(MADE)/descent-in-words: $(MADE)/%-in-words: console/examples/%.c $(ARCHIVE) $(HEADER)
 	$(CC) $(CFLAGS) -Iconsole/include $< $(ARCHIVE) -o $@
 
 install: all
