@@ -8,12 +8,12 @@ use lib.Dec.{T}
 use lib.Ieee.{Float, binary64, fits, eq, lt}
 use lib.Ieee.Fits.{add-fits, sub-fits}
 use Rattle.arithmetic.proofs.TestLaws.{both}
-use Rattle.descent.specs.Numbers.{whole}
-use Rattle.descent.specs.Step.{nextHorizontal, nextDownward, nextState}
+use Rattle.fall.specs.Numbers.{whole}
+use Rattle.fall.specs.Step.{nextHorizontal, nextDownward, nextState}
 use Rattle.descent.specs.Descent.{speedNegative, groundReached, landed, refusedDescent, fallFrom}
-use Rattle.descent.specs.declared.Fall.{Fall}
-use Rattle.descent.specs.declared.step.Body.{Body}
-use Rattle.descent.proofs.FloatLaws.{same-above-zero, above-not-below}
+use Rattle.fall.specs.declared.Fall.{Fall}
+use Rattle.fall.specs.declared.Body.{Body}
+use Rattle.fall.proofs.FloatLaws.{same-above-zero, above-not-below}
 
 module _ (b : Body) (h : Float) where
   one-step : (left n : ℕ) (s : Fall) → fallFrom b h (suc left) n s

@@ -16,9 +16,9 @@ use lib.Ieee.Positive.{positive, above, above-of-le}
 use lib.Ieee.Scale.{round-same}
 use borrow.Author.Tests.{ne-eqb, le-ltb, ltb-false}
 use Rattle.arithmetic.specs.Fraction.{_over_}
-use Rattle.descent.specs.Numbers.{decimal, whole, dividedBy, inMetres}
+use Rattle.fall.specs.Numbers.{decimal, whole, dividedBy, inMetres}
 use Rattle.descent.specs.Descent.{firstState, speedNegative, groundReached}
-use Rattle.descent.proofs.FloatLaws.{zero-made, finite-not-below}
+use Rattle.fall.proofs.FloatLaws.{zero-made, finite-not-below}
 
 cross : (a c x y n d : ℕ) → a * 1 ≡ n * x → c * 1 ≡ d * y → a * y * d ≡ n * (c * x)
 cross a c x y n d p q =

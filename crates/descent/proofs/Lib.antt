@@ -1,5 +1,3 @@
-pub mod Literals
-pub mod FloatLaws
 pub mod FallLaws
 pub mod FirstState
 pub mod StateLaws

@@ -14,11 +14,11 @@ use Rattle.arithmetic.proofs.RefusalLaws.{first-exactly-when, use-of, first-lis
 use Rattle.arithmetic.proofs.TestLaws.{lt-or-le, neither, inside, not-outside}
 use Rattle.sheet.proofs.RangeLaws.{within, tests-fail}
 use Rattle.frontal_area.specs.FrontalArea.{firstDimension, lastDimension}
-use Rattle.descent.specs.Numbers.{inMetres}
+use Rattle.fall.specs.Numbers.{inMetres}
 use Rattle.descent.specs.Descent.{speedNegative, groundReached, above60, landed, refusedDescent, fallOf, heightMax, budgetMax, descentTests, descentOf}
 use Rattle.descent.specs.Promises.{stateOf, InTheAir, EndsAt, TurnsNegativeAt, DescentInRange, WithinBudget, Landed, DescentPromise, BudgetLaw, DescentLaws}
 use Rattle.descent.specs.declared.Descent.{Descent}
-use Rattle.descent.specs.declared.Fall.{Fall}
+use Rattle.fall.specs.declared.Fall.{Fall}
 use Rattle.descent.proofs.FirstState.{division-nearest}
 use Rattle.descent.proofs.StateLaws.{AirTo, Outcome, lasting, landing, turning, outcome, all-in-the-air, lands, turns, first-in-the-air, from-first}
 

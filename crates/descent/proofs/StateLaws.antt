@@ -10,14 +10,14 @@ use lib.Dec.{lit≤, lit<}
 use lib.IntN.{pos}
 use lib.Ieee.{Float, lt}
 use Rattle.sheet.specs.Ranges.{speedMax}
-use Rattle.descent.specs.Numbers.{whole, inMetres}
-use Rattle.descent.specs.Step.{nextState, stateAfter}
+use Rattle.fall.specs.Numbers.{whole, inMetres}
+use Rattle.fall.specs.Step.{nextState, stateAfter}
 use Rattle.descent.specs.Descent.{bodyOf, firstState, speedNegative, groundReached, landed, refusedDescent, fallFrom, fallOf, heightMax}
 use Rattle.descent.specs.Promises.{stateOf, InTheAir, EndsAt, TurnsNegativeAt}
-use Rattle.descent.specs.declared.Fall.{Fall}
+use Rattle.fall.specs.declared.Fall.{Fall}
 use Rattle.descent.specs.declared.Descent.{Descent}
-use Rattle.descent.specs.declared.step.Body.{Body}
-use Rattle.descent.proofs.FloatLaws.{zero-made, finite-not-below}
+use Rattle.fall.specs.declared.Body.{Body}
+use Rattle.fall.proofs.FloatLaws.{zero-made, finite-not-below}
 use Rattle.descent.proofs.FirstState.{division-nearest, not-below, beyond}
 use Rattle.descent.proofs.FallLaws.{spent, refused-19, ground, in-the-air}
 

@@ -6,11 +6,11 @@ use lib.Ieee.{Float, binary64, mul, lt, le}
 use Rattle.arithmetic.specs.Conditions.{outside}
 use Rattle.arithmetic.specs.Refusals.{Test, _when_, answered}
 use Rattle.frontal_area.specs.FrontalArea.{frontalArea, multirotorTests}
-use Rattle.descent.specs.Numbers.{whole, inMetres, inKilograms, inSquareMetres}
-use Rattle.descent.specs.Step.{dragFactor, nextState}
-use Rattle.descent.specs.declared.Fall.{Fall}
+use Rattle.fall.specs.Numbers.{whole, inMetres, inKilograms, inSquareMetres}
+use Rattle.fall.specs.Step.{dragFactor, nextState}
+use Rattle.fall.specs.declared.Fall.{Fall}
 use Rattle.descent.specs.declared.Descent.{Descent}
-use Rattle.descent.specs.declared.step.Body.{Body}
+use Rattle.fall.specs.declared.Body.{Body}
 
 -- the falling aircraft, of its dimension and mass
 abbrev pub bodyOf : ℕ → ℕ → Body

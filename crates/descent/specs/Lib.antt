@@ -1,4 +1,2 @@
-pub mod Numbers
-pub mod Step
 pub mod Descent
 pub mod Promises

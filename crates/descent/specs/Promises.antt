@@ -7,10 +7,10 @@ use Prim.Native.Nat.{ℕ, _^_, _≤_, _<_}
 use Rattle.arithmetic.specs.Fraction.{_over_}
 use Rattle.arithmetic.specs.Refusals.{FirstToHold, OneOf, numbers}
 use Rattle.frontal_area.specs.FrontalArea.{MultirotorInRange}
-use Rattle.descent.specs.Numbers.{decimal, dividedBy, inMetres}
-use Rattle.descent.specs.Step.{stateAfter}
+use Rattle.fall.specs.Numbers.{decimal, dividedBy, inMetres}
+use Rattle.fall.specs.Step.{stateAfter}
 use Rattle.descent.specs.Descent.{bodyOf, firstState, speedNegative, groundReached, above60, refusedDescent, heightMax, budgetMax, descentTests, descentOf}
-use Rattle.descent.specs.declared.Fall.{Fall}
+use Rattle.fall.specs.declared.Fall.{Fall}
 use Rattle.descent.specs.declared.Descent.{Descent}
 
 -- the state that n steps make of an aircraft's first one

@@ -1,29 +1,19 @@
 // The descent of a multirotor from its operating height, stepped until it reaches the ground (document 02, item 4).
 ghost use mathlib.Core.Path.{_≡_};
-ghost use Prim.Native.Nat.{_≤_};
-ghost use Rattle.frontal_area.specs.FrontalArea.{frontalArea};
-ghost use Rattle.descent.specs.Descent.{bodyOf, firstState, speedNegative, groundReached, landed, refusedDescent, fallFrom, fallOf, descentOf};
+ghost use Rattle.descent.specs.Descent.{bodyOf, firstState, landed, refusedDescent, fallFrom, descentOf};
 
 mod predict;
-mod step;
 
 use crate::predict::Progress;
 use crate::predict::Speeds;
 use crate::predict::confirmed_steps;
 use crate::predict::with_latest;
-use crate::step::Body;
-use crate::step::speed;
-use crate::step::step;
+use fall::Body;
+use fall::Fall;
+use fall::speed;
+use fall::step;
 use frontal_area::frontal_area;
 use frontal_area::multirotor_refusal;
-
-// The state of the fall: horizontal and downward speed in m/s, distance fallen in m.
-#[repr(C)]
-pub struct Fall {
-    pub horizontal: f64,
-    pub downward: f64,
-    pub fallen: f64,
-}
 
 // A refusal number, 0 for none. Then whether the angle at the ground is above 60 degrees, 1 or 0; the number of steps; the end state. All
 // zeros where it is refused.

@@ -4,9 +4,9 @@
 ghost use mathlib.Core.Path.{_≡_};
 ghost use Prim.Native.Nat.{_-_, _≤_};
 ghost use Rattle.descent.specs.Descent.{fallFrom};
-use crate::Fall;
-use crate::step::Body;
-use crate::step::step;
+use fall::Body;
+use fall::Fall;
+use fall::step;
 
 // The speeds of the last five states, the latest first.
 pub struct Speeds(pub f64, pub f64, pub f64, pub f64, pub f64);

@@ -8,12 +8,12 @@ use lib.Ieee.{Float, binary64, ofBits, ofInt, add, sub, mul, div, lt, le, eq, ro
 use Rattle.arithmetic.specs.Each.{Each}
 use Rattle.arithmetic.proofs.EachLaws.{each-append, each-equal}
 use Rattle.frontal_area.specs.FrontalArea.{frontalArea}
-use Rattle.descent.specs.Numbers.{decimal, dividedBy, inMetres}
-use Rattle.descent.specs.Step.{dragFactor, stateAfter}
+use Rattle.fall.specs.Numbers.{decimal, dividedBy, inMetres}
+use Rattle.fall.specs.Step.{dragFactor, stateAfter}
 use Rattle.descent.specs.Descent.{bodyOf, firstState, descentOf}
-use Rattle.descent.specs.declared.Fall.{Fall}
+use Rattle.fall.specs.declared.Fall.{Fall}
 use Rattle.descent.specs.declared.Descent.{Descent}
-use Rattle.descent.specs.declared.step.Body.{Body}
+use Rattle.fall.specs.declared.Body.{Body}
 use Rattle.descent_points.specs.DescentPoint.{DescentPoint, fall, refused}
 use Rattle.descent_points.specs.Points.{Every200, PointHolds}
 use Rattle.descent_points.specs.PointTable.{points}

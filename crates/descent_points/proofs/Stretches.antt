@@ -9,13 +9,13 @@ use borrow.Author.Tests.{ne-eqb}
 use lib.Ieee.{Float, binary64, ofBits, add, sub, mul, div, eq}
 use Rattle.arithmetic.specs.Refusals.{firstRefusal}
 use Rattle.arithmetic.proofs.RefusalLaws.{by-number}
-use Rattle.descent.specs.Numbers.{whole, inMetres}
-use Rattle.descent.specs.Step.{nextGuess, afterRounds, speedOf, dragPerSpeed, slowing, nextHorizontal, nextDownward, nextFallen, nextState, stateAfter}
-use Rattle.descent.proofs.Literals.{zero-is, half-is, time-step-is, gravity-is}
+use Rattle.fall.specs.Numbers.{whole, inMetres}
+use Rattle.fall.specs.Step.{nextGuess, afterRounds, speedOf, dragPerSpeed, slowing, nextHorizontal, nextDownward, nextFallen, nextState, stateAfter}
+use Rattle.fall.proofs.Literals.{zero-is, half-is, time-step-is, gravity-is}
 use Rattle.descent.specs.Descent.{bodyOf, firstState, speedNegative, groundReached, landed, refusedDescent, fallFrom, fallOf, descentTests, descentOf}
-use Rattle.descent.specs.declared.Fall.{Fall}
+use Rattle.fall.specs.declared.Fall.{Fall}
 use Rattle.descent.specs.declared.Descent.{Descent}
-use Rattle.descent.specs.declared.step.Body.{Body}
+use Rattle.fall.specs.declared.Body.{Body}
 
 -- ---- a step with its decimals worked out and its speed found once
 

@@ -1,10 +1,10 @@
 -- What a worked fall says: the falls of PointTable.antt, which the checker works out, with one claim.
 use mathlib.Core.Path.{_≡_}
 use mathlib.Core.List.{List, [], _∷_}
-use Rattle.descent.specs.Step.{stateAfter}
+use Rattle.fall.specs.Step.{stateAfter}
 use Rattle.descent.specs.Descent.{bodyOf, firstState, descentOf}
-use Rattle.descent.specs.declared.Fall.{Fall}
-use Rattle.descent.specs.declared.step.Body.{Body}
+use Rattle.fall.specs.declared.Fall.{Fall}
+use Rattle.fall.specs.declared.Body.{Body}
 use Rattle.descent_points.specs.DescentPoint.{DescentPoint}
 
 -- each state is 200 steps after the one before

@@ -4,9 +4,9 @@ use lib.Ieee.{inFloat}
 use native.Mathlib.Omega.{arith}
 use borrow.Author.Needs.{needs}
 use Rattle.frontal_area.proofs.PromisesHold.{frontal-area-promise}
-use Rattle.descent.specs.Numbers.{dividedBy}
-use Rattle.descent.specs.Step.{dragFactor}
-use Rattle.descent.proofs.Literals.{thousand-is, million-is, half-is, air-density-is, drag-coefficient-is}
+use Rattle.fall.specs.Numbers.{dividedBy}
+use Rattle.fall.specs.Step.{dragFactor}
+use Rattle.fall.proofs.Literals.{thousand-is, million-is, half-is, air-density-is, drag-coefficient-is}
 use Rattle.descent.proofs.body.Statement.{statement}
 use Rattle.descent.proofs.body.Tie as tie
 

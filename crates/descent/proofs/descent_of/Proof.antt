@@ -8,11 +8,11 @@ use Rattle.arithmetic.specs.Conditions.{outside}
 use Rattle.arithmetic.specs.Refusals.{firstRefusal}
 use Rattle.arithmetic.proofs.RefusalLaws.{refused-before, way-out-after}
 use Rattle.frontal_area.specs.FrontalArea.{multirotorTests}
-use Rattle.descent.specs.Numbers.{dividedBy, inMetres}
+use Rattle.fall.specs.Numbers.{dividedBy, inMetres}
 use Rattle.descent.specs.Descent.{bodyOf, firstState, refusedDescent, fallFrom, fallOf, fallTests, descentOf}
-use Rattle.descent.specs.declared.Fall.{Fall}
-use Rattle.descent.specs.declared.step.Body.{Body}
-use Rattle.descent.proofs.Literals.{hundred-is}
+use Rattle.fall.specs.declared.Fall.{Fall}
+use Rattle.fall.specs.declared.Body.{Body}
+use Rattle.fall.proofs.Literals.{hundred-is}
 use Rattle.descent.proofs.descent_of.Statement.{statement}
 use Rattle.descent.proofs.descent_of.Tie as tie
 

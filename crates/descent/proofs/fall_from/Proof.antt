@@ -6,7 +6,7 @@ use native.Mathlib.Nat.{sub-zero}
 use native.Mathlib.Omega.{arith}
 use borrow.Author.Needs.{needs}
 use Rattle.descent.specs.Descent.{fallFrom}
-use Rattle.descent.proofs.Literals.{zero-is}
+use Rattle.fall.proofs.Literals.{zero-is}
 use Rattle.descent.proofs.FallLaws.{spent, refused-19, ground, in-the-air}
 use Rattle.descent.proofs.fall_from.Statement.{statement}
 use Rattle.descent.proofs.fall_from.Tie as tie

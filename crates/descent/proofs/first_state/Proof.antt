@@ -1,7 +1,7 @@
 -- `first_state` gives the cruise speed in m/s, 0 and 0.
 use borrow.Author.Needs.{needs}
-use Rattle.descent.specs.Numbers.{dividedBy}
-use Rattle.descent.proofs.Literals.{zero-is, hundred-is}
+use Rattle.fall.specs.Numbers.{dividedBy}
+use Rattle.fall.proofs.Literals.{zero-is, hundred-is}
 use Rattle.descent.proofs.first_state.Statement.{statement}
 use Rattle.descent.proofs.first_state.Tie as tie
 

@@ -1,7 +1,7 @@
 -- `landed_after` gives the verdict of the end state.
 use borrow.Author.Needs.{needs}
 use Rattle.arithmetic.proofs.TestLaws.{byte-is}
-use Rattle.descent.proofs.Literals.{three-is}
+use Rattle.fall.proofs.Literals.{three-is}
 use Rattle.descent.proofs.landed_after.Statement.{statement}
 use Rattle.descent.proofs.landed_after.Tie as tie
 

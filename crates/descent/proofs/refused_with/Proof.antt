@@ -1,5 +1,5 @@
 -- `refused_with` gives the answer of zeros.
-use Rattle.descent.proofs.Literals.{zero-is}
+use Rattle.fall.proofs.Literals.{zero-is}
 use Rattle.descent.proofs.refused_with.Statement.{statement}
 use Rattle.descent.proofs.refused_with.Tie as tie
 

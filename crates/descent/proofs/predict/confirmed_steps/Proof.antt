@@ -9,7 +9,7 @@ use borrow.Author.Needs.{needs}
 use borrow.Author.Tests.{not-false}
 use Rattle.arithmetic.proofs.TestLaws.{neither}
 use Rattle.descent.specs.Descent.{fallFrom}
-use Rattle.descent.proofs.Literals.{zero-is}
+use Rattle.fall.proofs.Literals.{zero-is}
 use Rattle.descent.proofs.FallLaws.{in-the-air, confirmed, confirmed-forward}
 use Rattle.descent.proofs.predict.confirmed_steps.Statement.{statement}
 use Rattle.descent.proofs.predict.confirmed_steps.Tie as tie

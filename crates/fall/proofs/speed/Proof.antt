@@ -1,10 +1,10 @@
 -- `speed` takes the six rounds, or 0 where both speeds are 0.
 use mathlib.Core.Path.{sym}
 use borrow.Author.Needs.{needs}
-use Rattle.descent.specs.Step.{speedOf}
-use Rattle.descent.proofs.Literals.{zero-is}
-use Rattle.descent.proofs.step.speed.Statement.{statement}
-use Rattle.descent.proofs.step.speed.Tie as tie
+use Rattle.fall.specs.Step.{speedOf}
+use Rattle.fall.proofs.Literals.{zero-is}
+use Rattle.fall.proofs.speed.Statement.{statement}
+use Rattle.fall.proofs.speed.Tie as tie
 
 returns : tie.Need-returns
 unfolding speedOf

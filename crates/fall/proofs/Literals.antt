@@ -2,8 +2,8 @@
 use mathlib.Core.Path.{_≡_, refl}
 use lib.Count.{trailingZeros}
 use lib.Ieee.{binary64, ofBits, ofFields, ofInt, round, size, span, climb, units, odd}
-use Rattle.descent.specs.Numbers.{decimal, whole}
-use Rattle.descent.specs.Step.{timeStep, half, airDensity, dragCoefficient, gravity}
+use Rattle.fall.specs.Numbers.{decimal, whole}
+use Rattle.fall.specs.Step.{timeStep, half, airDensity, dragCoefficient, gravity}
 
 pub zero-is : ofBits binary64 0 ≡ whole 0
 unfolding ofBits ofFields ofInt round size span climb units odd trailingZeros

@@ -5,10 +5,10 @@ use native.Mathlib.Omega.{arith}
 use lib.Dec.{T}
 use lib.Ieee.{Float, binary64, fits, eq}
 use borrow.Author.Needs.{needs}
-use Rattle.descent.specs.Step.{nextGuess, afterRounds}
-use Rattle.descent.proofs.FloatLaws.{guess-fits, guess-stays, round-made, rounds-made}
-use Rattle.descent.proofs.step.six_rounds.Statement.{statement}
-use Rattle.descent.proofs.step.six_rounds.Tie as tie
+use Rattle.fall.specs.Step.{nextGuess, afterRounds}
+use Rattle.fall.proofs.FloatLaws.{guess-fits, guess-stays, round-made, rounds-made}
+use Rattle.fall.proofs.six_rounds.Statement.{statement}
+use Rattle.fall.proofs.six_rounds.Tie as tie
 
 abbrev Inv-loop : tie.InvT-loop
 Inv-loop sum first guess₀ n₀ guess n =

@@ -1,9 +1,9 @@
 -- `step` makes the next state, every operation in the definition's order.
 use borrow.Author.Needs.{needs}
-use Rattle.descent.specs.Step.{dragPerSpeed, slowing, nextHorizontal, nextDownward, nextFallen, nextState}
-use Rattle.descent.proofs.Literals.{half-is, time-step-is, gravity-is}
-use Rattle.descent.proofs.step.step.Statement.{statement}
-use Rattle.descent.proofs.step.step.Tie as tie
+use Rattle.fall.specs.Step.{dragPerSpeed, slowing, nextHorizontal, nextDownward, nextFallen, nextState}
+use Rattle.fall.proofs.Literals.{half-is, time-step-is, gravity-is}
+use Rattle.fall.proofs.step.Statement.{statement}
+use Rattle.fall.proofs.step.Tie as tie
 
 speed-requires : tie.Need-speed-requires
 speed-requires c κs = search needs

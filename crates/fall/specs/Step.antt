@@ -3,9 +3,9 @@ use mathlib.Core.Bool.{Bool, cond, _&&_}
 use Prim.Native.Nat.{ℕ, zero, suc}
 use lib.Ieee.{Float, binary64, add, sub, mul, div, eq}
 use Rattle.arithmetic.specs.Fraction.{_over_}
-use Rattle.descent.specs.Numbers.{decimal, whole}
-use Rattle.descent.specs.declared.Fall.{Fall}
-use Rattle.descent.specs.declared.step.Body.{Body}
+use Rattle.fall.specs.Numbers.{decimal, whole}
+use Rattle.fall.specs.declared.Fall.{Fall}
+use Rattle.fall.specs.declared.Body.{Body}
 
 -- "Each step is 0.01 s."
 abbrev pub timeStep : Float

@@ -13,8 +13,8 @@ use lib.Ieee.Fits.{up-pos, down-pos, mul-fits}
 use lib.Ieee.Nearest.{div-same}
 use borrow.Author.Tests.{eqb-true, eqb-false, ne-eqb, ltb-true, le-ltb}
 use Rattle.arithmetic.proofs.TestLaws.{both}
-use Rattle.descent.specs.Numbers.{whole}
-use Rattle.descent.specs.Step.{half, nextGuess, afterRounds}
+use Rattle.fall.specs.Numbers.{whole}
+use Rattle.fall.specs.Step.{half, nextGuess, afterRounds}
 
 -- as fractions equal, with one sign: the same bits, and so the same
 same-bits : (s : Bool) (m : ℕ) (e : ℤ) (n : ℕ) (d : ℤ) → m * up e * down d ≡ n * up d * down e → toBits binary64 (fin s m e) ≡ toBits binary64 (fin s n d)

@@ -1,7 +1,14 @@
-// One step of the fall, 0.01 s (document 02, item 4). Every operation is in the order of the item's words.
+// The state of a fall and one step of it, 0.01 s (document 02, item 4). Every operation is in the order of the item's words.
 ghost use mathlib.Core.Path.{_≡_};
-ghost use Rattle.descent.specs.Step.{nextGuess, afterRounds, speedOf, nextState};
-use crate::Fall;
+ghost use Rattle.fall.specs.Step.{nextGuess, afterRounds, speedOf, nextState};
+
+// The state: horizontal and downward speed in m/s, distance fallen in m.
+#[repr(C)]
+pub struct Fall {
+    pub horizontal: f64,
+    pub downward: f64,
+    pub fallen: f64,
+}
 
 // The falling aircraft: 0.5 × air density × frontal area × drag coefficient, which times the speed is the drag per speed; and the mass in
 // kg.
