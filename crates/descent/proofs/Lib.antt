@@ -1,0 +1,6 @@
+pub mod Literals
+pub mod FloatLaws
+pub mod FallLaws
+pub mod FirstState
+pub mod StateLaws
+pub mod PromisesHold

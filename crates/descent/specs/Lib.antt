@@ -1,0 +1,4 @@
+pub mod Numbers
+pub mod Step
+pub mod Descent
+pub mod Promises
