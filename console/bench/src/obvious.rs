@@ -22,7 +22,8 @@ macro_rules! rounded_up {
     }};
 }
 
-fn in_range(dimension: u32, mass: u32, speed: u32) -> Result<(), u8> {
+#[inline(never)]
+pub fn sheet(dimension: u32, mass: u32, speed: u32) -> Result<Sheet, u8> {
     if !(50..=100_000).contains(&dimension) {
         return Err(1);
     }
@@ -32,12 +33,6 @@ fn in_range(dimension: u32, mass: u32, speed: u32) -> Result<(), u8> {
     if speed > 40_000 {
         return Err(3);
     }
-    Ok(())
-}
-
-#[inline(never)]
-pub fn sheet(dimension: u32, mass: u32, speed: u32) -> Result<Sheet, u8> {
-    in_range(dimension, mass, speed)?;
     let glide = Bracket { low: 2_570_666, high: 2_570_667 };
     let square = u128::from(speed) * u128::from(speed);
     let run = Bracket {
@@ -114,7 +109,15 @@ fn factor(joules: u64, up: bool) -> u64 {
 
 #[inline(never)]
 pub fn high_angle(dimension: u32, mass: u32, speed: u32) -> Result<HighAngle, u8> {
-    in_range(dimension, mass, speed)?;
+    if !(50..=100_000).contains(&dimension) {
+        return Err(1);
+    }
+    if !(50..=25_000_000).contains(&mass) {
+        return Err(2);
+    }
+    if speed > 40_000 {
+        return Err(3);
+    }
     let frontal_area = frontal_area(dimension).ok_or(16)?;
     // in g and square millimetres, 9.81 / (1.225 × 0.8) as 981 / 98
     let energy = u128::from(mass) * u128::from(mass) * 981;
@@ -149,7 +152,15 @@ fn step(fall: Fall, area: f64, mass: f64) -> Fall {
 
 #[inline(never)]
 pub fn descent(dimension: u32, mass: u32, speed: u32, height: u32, budget: u32) -> Result<Descent, u8> {
-    in_range(dimension, mass, speed)?;
+    if !(50..=100_000).contains(&dimension) {
+        return Err(1);
+    }
+    if !(50..=25_000_000).contains(&mass) {
+        return Err(2);
+    }
+    if speed > 40_000 {
+        return Err(3);
+    }
     let frontal_area = frontal_area(dimension).ok_or(16)?;
     if !(1..=50_000).contains(&height) || !(1..=20_000).contains(&budget) {
         return Err(17);
