@@ -1,18 +1,20 @@
 -- One turn of the fall: from n steps made of a budget to one more.
-use mathlib.Core.Path.{_≡_, refl, sym, _∙_}
-use mathlib.Core.Bool.{true, false, cond, _&&_}
+use mathlib.Core.Path.{_≡_, refl, sym, ap, _∙_}
+use mathlib.Core.Bool.{true, false, cond, not, _&&_}
 use Prim.Native.Nat.{ℕ, zero, suc, _+_, _-_, _<_}
 use native.Mathlib.Numerals.{add-one}
 use native.Mathlib.Omega.{arith}
 use lib.Dec.{T}
-use lib.Ieee.{Float, binary64, fits, eq, lt}
+use borrow.Author.Tests.{not-true}
+use lib.Ieee.{Float, binary64, fits, lt}
 use lib.Ieee.Fits.{add-fits, sub-fits}
 use Rattle.arithmetic.proofs.TestLaws.{both}
 use Rattle.fall.specs.Numbers.{whole}
-use Rattle.fall.specs.Step.{nextHorizontal, nextDownward, nextState}
+use Rattle.fall.specs.Step.{nextHorizontal, nextDownward, fallenTo, nextFallen, nextState}
 use Rattle.descent.specs.Descent.{speedNegative, groundReached, landed, refusedDescent, fallFrom}
 use Rattle.fall.specs.declared.Fall.{Fall}
 use Rattle.fall.specs.declared.Body.{Body}
+use Rattle.descent.specs.PrivatePredicted.{Predicted, inFlight, sameSpeeds}
 use Rattle.fall.proofs.FloatLaws.{same-above-zero, above-not-below}
 
 module _ (b : Body) (h : Float) where
@@ -43,22 +45,31 @@ module _ (b : Body) (h : Float) where
         → fallFrom b h (budget - n) n s ≡ fallFrom b h (budget - (n + 1)) (n + 1) t
     in-the-air e g = turned ∙ simp (e, g)
 
--- a predicted state that the exact one confirms, its speeds above zero
-module _ (b : Body) (s : Fall) {exact : Fall} (made : exact ≡ nextState b s) (x y : Float) (fx : T (fits binary64 x)) (fy : T (fits binary64 y))
-    (equal : (eq (exact .horizontal) x && eq (exact .downward) y) ≡ true) (above : (lt (whole 0) x && lt (whole 0) y) ≡ true) where
+-- a predicted state that the exact one confirms, in flight
+module _ (b : Body) (h : Float) (s : Fall) {exact p : Fall} (made : exact ≡ nextState b s) (known : Predicted s p) (equal : sameSpeeds exact p ≡ true)
+    (flies : inFlight h p ≡ true) where
   exact-fits : T (fits binary64 (exact .horizontal)) × T (fits binary64 (exact .downward))
   unfolding nextState nextHorizontal nextDownward
   exact-fits = rw made (sub-fits binary64 _ _, add-fits binary64 _ _)
 
-  pub confirmed : record { horizontal = x; downward = y; fallen = exact .fallen } ≡ nextState b s
-  confirmed =
-      let e = both _ _ equal in
-      let a = both _ _ above in
-      let h = same-above-zero (exact .horizontal) x (exact-fits .0) fx (e .0) (a .0) in
-      let d = same-above-zero (exact .downward) y (exact-fits .1) fy (e .1) (a .1) in
-      (λ i. record { horizontal = sym h i; downward = sym d i; fallen = exact .fallen }) ∙ made
+  above : (lt (whole 0) (p .horizontal) ≡ true) × (lt (whole 0) (p .downward) ≡ true)
+  above = both _ _ (both _ _ flies .0)
 
-  pub confirmed-forward : speedNegative (record { horizontal = x; downward = y; fallen = exact .fallen }) ≡ false
-  confirmed-forward =
-      let a = both _ _ above in
-      simp (above-not-below x (a .0), above-not-below y (a .1))
+  confirmed : p ≡ nextState b s
+  unfolding nextState nextFallen
+  confirmed =
+      let same = both _ _ equal in
+      let horizontal = same-above-zero (exact .horizontal) (p .horizontal) (exact-fits .0) (known .horizontal-fits) (same .0) (above .0) in
+      let downward = same-above-zero (exact .downward) (p .downward) (exact-fits .1) (known .downward-fits) (same .1) (above .1) in
+      let forward-made = sym horizontal ∙ ap (λ (x : Fall). x .horizontal) made in
+      let down-made = sym downward ∙ ap (λ (x : Fall). x .downward) made in
+      λ i. record { horizontal = forward-made i; downward = down-made i; fallen = (known .fallen-is ∙ ap (fallenTo s) down-made) i }
+
+  forward : speedNegative p ≡ false
+  forward = simp (above-not-below (p .horizontal) (above .0), above-not-below (p .downward) (above .1))
+
+  short : groundReached h p ≡ false
+  short = not-true _ (both (lt (whole 0) (p .horizontal) && lt (whole 0) (p .downward)) (not (groundReached h p)) flies .1)
+
+  pub one-on : (budget n : ℕ) → n < budget → fallFrom b h (budget - n) n s ≡ fallFrom b h (budget - (n + 1)) (n + 1) p
+  one-on budget n l = in-the-air b h budget n s l confirmed forward short

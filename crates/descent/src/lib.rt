@@ -66,7 +66,7 @@ fn fall_from(b: Body, height: f64, budget: u32, first: Fall) -> Descent
     let mut at = Progress {
         state: first,
         steps: 0,
-        speeds: Speeds(0.0, 0.0, 0.0, 0.0, 0.0),
+        speeds: Speeds(0.0, 0.0, 0.0, 0.0),
     };
     while at.steps < budget {
         let state = step(b, at.state);
@@ -77,17 +77,9 @@ fn fall_from(b: Body, height: f64, budget: u32, first: Fall) -> Descent
         if state.fallen >= height {
             return landed_after(steps, state);
         }
+        let terminal = state.downward == at.state.downward;
         let speeds = with_latest(at.speeds, speed(at.state));
-        at = confirmed_steps(
-            b,
-            height,
-            budget,
-            Progress {
-                state,
-                steps,
-                speeds,
-            },
-        );
+        at = confirmed_steps(b, height, budget, terminal, Progress { state, steps, speeds });
     }
     refused_with(18)
 }

@@ -1,17 +1,18 @@
-// Steps that were predicted and then confirmed. A step is one long chain of divisions, and the next one would wait for its end: where a
-// cheap formula has guessed the new speeds to the last bit, which the exact step confirms, the next step begins from the guess. A wrong
-// guess costs time and nothing else: no guess has a contract.
+// Steps that were predicted and then confirmed. A step is one long chain of divisions, and the next one would wait for its end. Where a
+// cheap formula has guessed the next two states to the last bit, which the exact steps confirm, the fall goes on from the guess while the
+// processor still works on them, on both at once. A wrong guess costs time and nothing else: no speed is promised of it.
 ghost use mathlib.Core.Path.{_≡_};
 ghost use Prim.Native.Nat.{_-_, _≤_};
 ghost use Rattle.descent.specs.Descent.{fallFrom};
+ghost use Rattle.descent.specs.PrivatePredicted.{Predicted, inFlight, sameSpeeds};
 use fall::Body;
 use fall::Fall;
-use fall::step;
+use fall::step_of_two;
 
-// The speeds of the last five states, the latest first.
-pub struct Speeds(pub f64, pub f64, pub f64, pub f64, pub f64);
+// The speeds of the last four states, the latest first.
+pub struct Speeds(pub f64, pub f64, pub f64, pub f64);
 
-// A state, the number of steps that made it, and the speeds before it.
+// A state, the number of steps that made it, and the speeds of the states before it.
 pub struct Progress {
     pub state: Fall,
     pub steps: u32,
@@ -19,46 +20,71 @@ pub struct Progress {
 }
 
 pub fn with_latest(v: Speeds, latest: f64) -> Speeds {
-    Speeds(latest, v.0, v.1, v.2, v.3)
+    Speeds(latest, v.0, v.1, v.2)
 }
 
-// The speed of a state: the polynomial through the last five, and one round towards the root that divides by nothing new.
+// The speed of a state: the polynomial through the last four, and from there half a round towards the root.
 fn predicted_speed(v: Speeds, s: Fall) -> f64 {
-    let next = 5.0 * (v.0 - v.3) - 10.0 * (v.1 - v.2) + v.4;
+    let guess = 4.0 * (v.0 + v.2) - 6.0 * v.1 - v.3;
     let sum = s.horizontal * s.horizontal + s.downward * s.downward;
-    next + (sum - next * next) * (0.5 / next)
+    guess + (sum - guess * guess) * (0.5 / guess)
 }
 
-// Steps on as long as each is confirmed and stays in the air: what is left of the fall is the same.
-pub fn confirmed_steps(b: Body, height: f64, budget: u32, from: Progress) -> Progress
+// The next state, of a predicted speed; `slowing` is 0.01 s of drag for each m/s of speed, over the mass. At terminal speed the downward
+// speed stays as it is.
+fn predicted(slowing: f64, terminal: bool, s: Fall, speed: f64) -> Fall
+    ensures { λ r. ⌜ Predicted s r ⌝ }
+{
+    let gain = if terminal { 0.0 } else { 0.0981 - speed * (slowing * s.downward) };
+    let downward = s.downward + gain;
+    Fall {
+        horizontal: s.horizontal - speed * (slowing * s.horizontal),
+        downward,
+        fallen: s.fallen + 0.5 * (s.downward + downward) * 0.01,
+    }
+}
+
+fn in_flight(height: f64, s: Fall) -> bool
+    ensures { λ r. ⌜ r ≡ inFlight height s ⌝ }
+{
+    ((0.0 < s.horizontal) & (0.0 < s.downward)) & !(s.fallen >= height)
+}
+
+fn same_speeds(s: Fall, t: Fall) -> bool
+    ensures { λ r. ⌜ r ≡ sameSpeeds s t ⌝ }
+{
+    (s.horizontal == t.horizontal) & (s.downward == t.downward)
+}
+
+// Steps on, two at a time, as long as both are confirmed and in the air: what is left of the fall is the same.
+pub fn confirmed_steps(
+    b: Body,
+    height: f64,
+    budget: u32,
+    terminal: bool,
+    from: Progress,
+) -> Progress
     requires { ⌜ from .steps ≤ budget ⌝ }
     ensures { λ r. ⌜ (from .steps ≤ r .steps) × (r .steps ≤ budget)
         × (fallFrom b height (budget - from .steps) (from .steps) (from .state) ≡ fallFrom b height (budget - r .steps) (r .steps) (r .state)) ⌝ }
 {
     let slowing = b.drag_factor / b.mass * 0.01;
     let mut at = from;
-    while at.steps < budget {
-        let s = at.state;
-        let speed = predicted_speed(at.speeds, s);
-        let horizontal = s.horizontal - speed * (slowing * s.horizontal);
-        let downward = s.downward + (0.0981 - speed * (slowing * s.downward));
-        let exact = step(b, s);
-        if !((exact.horizontal == horizontal) & (exact.downward == downward)) {
-            return at;
-        }
-        if !((0.0 < horizontal) & (0.0 < downward)) | (exact.fallen >= height) {
-            return at;
-        }
-        let state = Fall {
-            horizontal,
-            downward,
-            fallen: exact.fallen,
-        };
+    while 1 < budget - at.steps {
+        let speed = predicted_speed(at.speeds, at.state);
+        let one = predicted(slowing, terminal, at.state, speed);
         let speeds = with_latest(at.speeds, speed);
+        let next_speed = predicted_speed(speeds, one);
+        let two = predicted(slowing, terminal, one, next_speed);
+        let exact = step_of_two(b, at.state, one);
+        let flying = in_flight(height, one) & in_flight(height, two);
+        if !(flying & (same_speeds(exact.first, one) & same_speeds(exact.second, two))) {
+            return at;
+        }
         at = Progress {
-            state,
-            steps: at.steps + 1,
-            speeds,
+            state: two,
+            steps: at.steps + 2,
+            speeds: with_latest(speeds, next_speed),
         };
     }
     at

@@ -4,7 +4,7 @@ use mathlib.Core.Bool.{Bool, true, false, cond, _&&_, _||_, Bool·beq, true≢fa
 use Prim.Native.Nat.{ℕ, zero, suc, _+_, _-_, _*_, _/_, _^_, _<_}
 use native.Mathlib.Nat.{lt-irrefl, mul-right-comm, mul-pos, zero-lt-suc}
 use native.Mathlib.Omega.{arith}
-use lib.Dec.{T, eqb, ltb}
+use lib.Dec.{T, eqb, ltb, lit<}
 use lib.Count.{trailingZeros}
 use lib.IntN.{ℤ, pos}
 use lib.Ieee.{Float, nan, inf, fin, binary64, prec, low, top, hid, up, down, level, size, fits, eq, lt, add, mul, div, toBits, ofBits, ofInt, round, span, climb, units, odd}
@@ -14,7 +14,8 @@ use lib.Ieee.Nearest.{div-same}
 use borrow.Author.Tests.{eqb-true, eqb-false, ne-eqb, ltb-true, le-ltb}
 use Rattle.arithmetic.proofs.TestLaws.{both}
 use Rattle.fall.specs.Numbers.{whole}
-use Rattle.fall.specs.Step.{half, nextGuess, afterRounds}
+use Rattle.fall.specs.Step.{half, nextGuess, afterRounds, speedOf}
+use Rattle.fall.specs.declared.Fall.{Fall}
 
 -- as fractions equal, with one sign: the same bits, and so the same
 same-bits : (s : Bool) (m : ℕ) (e : ℤ) (n : ℕ) (d : ℤ) → m * up e * down d ≡ n * up d * down e → toBits binary64 (fin s m e) ≡ toBits binary64 (fin s n d)
@@ -179,3 +180,23 @@ round-made all n sum guess h = let left : all - n ≡ suc (all - (n + 1)) = omeg
 pub rounds-made : (sum guess : Float) → afterRounds 0 sum guess ≡ guess
 unfolding afterRounds
 rounds-made sum guess = refl
+
+-- the second round returns the first one's
+pub two-rounds-enough : (sum first : Float) {one two : Float} → one ≡ nextGuess sum first → two ≡ nextGuess sum one → eq two one ≡ true → two ≡ afterRounds 6 sum first
+two-rounds-enough sum first {one} {two} e f h =
+    f
+    ∙ guess-stays 5 sum one (rw e (guess-fits sum first)) (ap (λ (x : Float). eq x one) (sym f) ∙ h)
+    ∙ ap (afterRounds 5 sum) e
+    ∙ sym (round-made 6 0 sum first (lit< tt))
+
+pub six-made : (sum first : Float) {one two three four five six : Float} → one ≡ nextGuess sum first → two ≡ nextGuess sum one → three ≡ nextGuess sum two
+    → four ≡ nextGuess sum three → five ≡ nextGuess sum four → six ≡ nextGuess sum five → six ≡ afterRounds 6 sum first
+unfolding afterRounds
+six-made sum first a b c d e f = cc
+
+-- the speed of a state that isn't at rest
+pub speed-by-rounds : (s : Fall) {speed : Float} → (eq (s .horizontal) (whole 0) && eq (s .downward) (whole 0)) ≡ false
+    → speed ≡ afterRounds 6 (add binary64 (mul binary64 (s .horizontal) (s .horizontal)) (mul binary64 (s .downward) (s .downward))) (add binary64 (s .horizontal) (s .downward))
+    → speed ≡ speedOf s
+unfolding speedOf
+speed-by-rounds s f e = simp f e

@@ -59,9 +59,12 @@ unfoldable pub nextDownward : Body → Fall → Float
 nextDownward b s = add binary64 (s .downward) (mul binary64 (sub binary64 gravity (slowing b s (s .downward))) timeStep)
 
 -- "The distance grows by 0.5 × (old plus new downward speed) × step."
+abbrev pub fallenTo : Fall → Float → Float
+fallenTo s downward =
+    add binary64 (s .fallen) (mul binary64 (mul binary64 half (add binary64 (s .downward) downward)) timeStep)
+
 unfoldable pub nextFallen : Body → Fall → Float
-nextFallen b s =
-    add binary64 (s .fallen) (mul binary64 (mul binary64 half (add binary64 (s .downward) (nextDownward b s))) timeStep)
+nextFallen b s = fallenTo s (nextDownward b s)
 
 -- the state after one step: "Both new speeds come from the old state."
 unfoldable pub nextState : Body → Fall → Fall

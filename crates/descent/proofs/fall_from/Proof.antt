@@ -72,14 +72,14 @@ confirmed-steps-requires c κs = search needs
 
 loop-less : tie.Need-loop-less Inv-loop μ-loop
 loop-less c =
-    let turn = c .before .before .before .before .before .before .before .before .before .before in
+    let turn = c .before .before .before .before .before .before .before .before .before .before .before .before in
     let here = turn .before .before in
     let more : here .loop .at .steps < here .before .args .budget = turn .if1 .taken in
     omega (arith, more, c .confirmed-steps .ensures .0)
 
 loop-again : tie.Need-loop-again Inv-loop μ-loop
 loop-again c =
-    let test = c .before .before .before .before .before in
+    let test = c .before .before .before .before .before .before .before in
     let made = test .before .before .before .before in
     let turn = made .before in
     let here = turn .before .before in
@@ -88,7 +88,7 @@ loop-again c =
     let on = c .confirmed-steps .ensures in (
       on .1,
       here .loop .inv .1
-          ∙ in-the-air (args .b) (args .height) (args .budget) (at .steps) (at .state) (turn .if1 .taken) (made .step .ensures) (simp (sym zero-is) (test .if2 .left)) (c .before .before .before .if3 .left)
+          ∙ in-the-air (args .b) (args .height) (args .budget) (at .steps) (at .state) (turn .if1 .taken) (made .step .ensures) (simp (sym zero-is) (test .if2 .left)) (c .before .before .before .before .before .if3 .left)
           ∙ on .2,
     )
 

@@ -1,78 +1,107 @@
--- `confirmed_steps` takes a predicted state only where the exact step makes it, in the air: what is left of the fall stays the same.
+-- `confirmed_steps` takes two predicted states only where the exact steps make them, in the air: what is left of the fall stays the same.
 use mathlib.Core.Path.{_≡_, refl, sym, ap, _∙_}
-use Prim.Native.Nat.{_-_, _≤_, _<_}
+use Prim.Native.Nat.{ℕ, _+_, _-_, _≤_, _<_}
 use native.Mathlib.Nat.{le-refl}
 use native.Mathlib.Omega.{arith}
-use lib.Ieee.{binary64}
-use lib.Ieee.Fits.{add-fits, sub-fits}
 use borrow.Author.Needs.{needs}
 use borrow.Author.Tests.{not-false}
-use Rattle.arithmetic.proofs.TestLaws.{neither}
+use Rattle.arithmetic.proofs.TestLaws.{both}
 use Rattle.descent.specs.Descent.{fallFrom}
-use Rattle.fall.proofs.Literals.{zero-is}
-use Rattle.descent.proofs.FallLaws.{in-the-air, confirmed, confirmed-forward}
+use Rattle.descent.proofs.FallLaws.{one-on}
 use Rattle.descent.proofs.predict.confirmed_steps.Statement.{statement}
 use Rattle.descent.proofs.predict.confirmed_steps.Tie as tie
 
 abbrev Inv-loop : tie.InvT-loop
-Inv-loop b height budget slowing at₀ at =
-    (at₀ .steps ≤ at .steps) × (at .steps ≤ budget) × (fallFrom b height (budget - at₀ .steps) (at₀ .steps) (at₀ .state) ≡ fallFrom b height (budget - at .steps) (at .steps) (at .state))
+Inv-loop b height budget terminal slowing at₀ at =
+    (at₀ .steps ≤ at .steps) × (at .steps ≤ budget)
+    × (fallFrom b height (budget - at₀ .steps) (at₀ .steps) (at₀ .state) ≡ fallFrom b height (budget - at .steps) (at .steps) (at .state))
 
 abbrev μ-loop : tie.MeasureT-loop
-μ-loop b height budget slowing at₀ at = budget - at .steps
+μ-loop b height budget terminal slowing at₀ at = budget - at .steps
 
 loop-holds : tie.Need-loop-holds Inv-loop μ-loop
 loop-holds c = (le-refl _, c .before .pre, refl)
 
+sub-if1 : tie.Need-sub-if1 Inv-loop μ-loop
+sub-if1 c = c .before .loop .inv .1
+
 predicted-speed-requires : tie.Need-predicted-speed-requires Inv-loop μ-loop
 predicted-speed-requires c κs = search needs
 
-step-requires : tie.Need-step-requires Inv-loop μ-loop
-step-requires c κs = search needs
-
-returns : tie.Need-returns Inv-loop μ-loop
-returns c = c .before .before .before .before .before .before .before .before .before .before .before .before .loop .inv
-
-returns-2 : tie.Need-returns-2 Inv-loop μ-loop
-returns-2 c = c .before .before .before .before .before .before .before .before .before .before .before .before .before .before .loop .inv
+predicted-requires : tie.Need-predicted-requires Inv-loop μ-loop
+predicted-requires c κs = search needs
 
 with-latest-requires : tie.Need-with-latest-requires Inv-loop μ-loop
 with-latest-requires c κs = search needs
 
-add-t24 : tie.Need-add-t24 Inv-loop μ-loop
-add-t24 c =
-    let turn = c .before .before .before .before .before .before .before .before .before .before .before .before .before .before in
-    let at = turn .before .before in
-    let more : at .loop .at .steps < at .before .before .args .budget = turn .if1 .taken in
+predicted-speed-requires-2 : tie.Need-predicted-speed-requires-2 Inv-loop μ-loop
+predicted-speed-requires-2 c κs = search needs
+
+predicted-requires-2 : tie.Need-predicted-requires-2 Inv-loop μ-loop
+predicted-requires-2 c κs = search needs
+
+step-of-two-requires : tie.Need-step-of-two-requires Inv-loop μ-loop
+step-of-two-requires c κs = search needs
+
+in-flight-requires : tie.Need-in-flight-requires Inv-loop μ-loop
+in-flight-requires c κs = search needs
+
+in-flight-requires-2 : tie.Need-in-flight-requires-2 Inv-loop μ-loop
+in-flight-requires-2 c κs = search needs
+
+same-speeds-requires : tie.Need-same-speeds-requires Inv-loop μ-loop
+same-speeds-requires c κs = search needs
+
+same-speeds-requires-2 : tie.Need-same-speeds-requires-2 Inv-loop μ-loop
+same-speeds-requires-2 c κs = search needs
+
+returns : tie.Need-returns Inv-loop μ-loop
+returns c = c .before .before .before .before .before .before .before .before .before .before .before .before .before .loop .inv
+
+add-t16 : tie.Need-add-t16 Inv-loop μ-loop
+add-t16 c =
+    let turn = c .before .before .before .before .before .before .before .before .before .before .before .before in
+    let more : 1 < turn .before .before .before .before .args .budget - turn .before .before .loop .at .steps = turn .if1 .taken in
     omega (arith, more)
 
+with-latest-requires-2 : tie.Need-with-latest-requires-2 Inv-loop μ-loop
+with-latest-requires-2 c κs = search needs
+
 loop-less : tie.Need-loop-less Inv-loop μ-loop
-loop-less c = omega arith
+loop-less c =
+    let turn = c .before .before .before .before .before .before .before .before .before .before .before .before .before in
+    let more : 1 < turn .before .before .before .before .args .budget - turn .before .before .loop .at .steps = turn .if1 .taken in
+    omega (arith, more)
 
 loop-again : tie.Need-loop-again Inv-loop μ-loop
 loop-again c =
     let test = c .before .before in
-    let equal = test .before .before in
-    let made = equal .before .before .before in
-    let turn = made .before .before .before .before .before .before .before in
-    let at = turn .before .before .loop .at in
-    let args = turn .before .before .before .before .args in
-    let exact = made .step .ensures in
-    let same = not-false _ (equal .if2 .left) in
-    let in-air = neither _ _ (test .if3 .left) in
-    let above = not-false _ (in-air .0) in
-    let fx = sub-fits binary64 _ _ in
-    let fy = add-fits binary64 _ _ in
-    let more : at .steps < args .budget = turn .if1 .taken in (
-      omega (arith, turn .before .before .loop .inv .0),
+    let second = test .before in
+    let first = second .before in
+    let flight-2 = first .before in
+    let flight-1 = flight-2 .before in
+    let exact = flight-1 .before in
+    let guess-2 = exact .before in
+    let guess-1 = guess-2 .before .before .before in
+    let turn = guess-1 .before .before in
+    let here = turn .before .before in
+    let at = here .loop .at in
+    let args = here .before .before .args in
+    let all = both _ _ (not-false _ (test .if2 .left)) in
+    let flying = both _ _ (all .0) in
+    let same = both _ _ (all .1) in
+    let steps = exact .step-of-two .ensures in
+    let more : 1 < args .budget - at .steps = turn .if1 .taken in
+    let one = one-on (args .b) (args .height) (at .state) (steps .0) (guess-1 .predicted .ensures) (sym (first .same-speeds .ensures) ∙ same .0) (sym (flight-1 .in-flight .ensures) ∙ flying .0) (args .budget) (at .steps) (omega (arith, more)) in
+    let two = one-on (args .b) (args .height) (guess-1 .predicted .result) (steps .1) (guess-2 .predicted2 .ensures) (sym (second .same-speeds2 .ensures) ∙ same .1) (sym (flight-2 .in-flight2 .ensures) ∙ flying .1) (args .budget) (at .steps + 1) (omega (arith, more)) in
+    (
+      omega (arith, here .loop .inv .0),
       omega (arith, more),
-      turn .before .before .loop .inv .2
-          ∙ in-the-air (args .b) (args .height) (args .budget) (at .steps) (at .state) more (confirmed (args .b) (at .state) exact _ _ fx fy same (simp (sym zero-is) above))
-          (confirmed-forward (args .b) (at .state) exact _ _ fx fy same (simp (sym zero-is) above)) (in-air .1),
+      here .loop .inv .2 ∙ one ∙ two ∙ ap (λ (n : ℕ). fallFrom (args .b) (args .height) (args .budget - n) n (guess-2 .predicted2 .result)) (omega arith),
     )
 
-returns-3 : tie.Need-returns-3 Inv-loop μ-loop
-returns-3 c = c .before .before .loop .inv
+returns-2 : tie.Need-returns-2 Inv-loop μ-loop
+returns-2 c = c .before .before .loop .inv
 
 pub confirmed-steps-spec : {M : Type 1} → statement M
 confirmed-steps-spec =
@@ -81,12 +110,20 @@ confirmed-steps-spec =
     Inv-loop
     μ-loop
     loop-holds
+    sub-if1
     predicted-speed-requires
-    step-requires
-    returns
-    returns-2
+    predicted-requires
     with-latest-requires
-    add-t24
+    predicted-speed-requires-2
+    predicted-requires-2
+    step-of-two-requires
+    in-flight-requires
+    in-flight-requires-2
+    same-speeds-requires
+    same-speeds-requires-2
+    returns
+    add-t16
+    with-latest-requires-2
     loop-less
     loop-again
-    returns-3)
+    returns-2)
