@@ -10,7 +10,7 @@ use crate::predict::confirmed_steps;
 use crate::predict::with_latest;
 use fall::Body;
 use fall::Fall;
-use fall::speed;
+use fall::speed_of;
 use fall::step;
 use frontal_area::frontal_area;
 use frontal_area::multirotor_refusal;
@@ -78,7 +78,7 @@ fn fall_from(b: Body, height: f64, budget: u32, first: Fall) -> Descent
             return landed_after(steps, state);
         }
         let terminal = state.downward == at.state.downward;
-        let speeds = with_latest(at.speeds, speed(at.state));
+        let speeds = with_latest(at.speeds, speed_of(at.state));
         at = confirmed_steps(b, height, budget, terminal, Progress { state, steps, speeds });
     }
     refused_with(18)

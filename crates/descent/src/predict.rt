@@ -30,7 +30,7 @@ fn predicted_speed(v: Speeds, s: Fall) -> f64 {
     guess + (sum - guess * guess) * (0.5 / guess)
 }
 
-// The next state, of a predicted speed; `slowing` is 0.01 s of drag for each m/s of speed, over the mass. At terminal speed the downward
+// The next state, of a predicted speed; `slowing` is what the drag of 1 m/s takes of 1 m/s in a step. At terminal speed the downward
 // speed stays as it is.
 fn predicted(slowing: f64, terminal: bool, s: Fall, speed: f64) -> Fall
     ensures { λ r. ⌜ Predicted s r ⌝ }
@@ -70,15 +70,17 @@ pub fn confirmed_steps(
 {
     let slowing = b.drag_factor / b.mass * 0.01;
     let mut at = from;
-    while 1 < budget - at.steps {
+    while ((1 < budget - at.steps) & (3 < at.steps)) & (0.0 < at.state.horizontal) {
         let speed = predicted_speed(at.speeds, at.state);
         let one = predicted(slowing, terminal, at.state, speed);
         let speeds = with_latest(at.speeds, speed);
         let next_speed = predicted_speed(speeds, one);
         let two = predicted(slowing, terminal, one, next_speed);
+        if !(in_flight(height, one) & in_flight(height, two)) {
+            return at;
+        }
         let exact = step_of_two(b, at.state, one);
-        let flying = in_flight(height, one) & in_flight(height, two);
-        if !(flying & (same_speeds(exact.first, one) & same_speeds(exact.second, two))) {
+        if !(same_speeds(exact.first, one) & same_speeds(exact.second, two)) {
             return at;
         }
         at = Progress {

@@ -40,7 +40,7 @@ fn six_rounds(sum: f64, first: f64) -> f64
     guess
 }
 
-pub fn speed(s: Fall) -> f64
+pub fn speed_of(s: Fall) -> f64
     ensures { λ r. ⌜ r ≡ speedOf s ⌝ }
 {
     if (s.horizontal == 0.0) & (s.downward == 0.0) {
@@ -70,7 +70,7 @@ fn moved(b: Body, s: Fall, speed: f64) -> Fall
 pub fn step(b: Body, s: Fall) -> Fall
     ensures { λ r. ⌜ r ≡ nextState b s ⌝ }
 {
-    moved(b, s, speed(s))
+    moved(b, s, speed_of(s))
 }
 
 struct Two(f64, f64);
@@ -100,7 +100,7 @@ fn speed_of_two(s: Fall, t: Fall) -> Two
     ensures { λ r. ⌜ (r .0 ≡ speedOf s) × (r .1 ≡ speedOf t) ⌝ }
 {
     if ((s.horizontal == 0.0) & (s.downward == 0.0)) | ((t.horizontal == 0.0) & (t.downward == 0.0)) {
-        return Two(speed(s), speed(t));
+        return Two(speed_of(s), speed_of(t));
     }
     let sum = Two(
         s.horizontal * s.horizontal + s.downward * s.downward,

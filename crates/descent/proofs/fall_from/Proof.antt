@@ -61,8 +61,8 @@ returns-2 c =
     ∙ sym (here .loop .inv .1
     ∙ ground (args .b) (args .height) (args .budget) (at .steps) (at .state) (turn .if1 .taken) (made .step .ensures) (simp (sym zero-is) (test .if2 .left)) (c .before .if3 .taken))
 
-speed-requires : tie.Need-speed-requires Inv-loop μ-loop
-speed-requires c κs = search needs
+speed-of-requires : tie.Need-speed-of-requires Inv-loop μ-loop
+speed-of-requires c κs = search needs
 
 with-latest-requires : tie.Need-with-latest-requires Inv-loop μ-loop
 with-latest-requires c κs = search needs
@@ -116,7 +116,7 @@ fall-from-spec =
     returns
     landed-after-requires
     returns-2
-    speed-requires
+    speed-of-requires
     with-latest-requires
     confirmed-steps-requires
     loop-less

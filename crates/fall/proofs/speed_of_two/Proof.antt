@@ -7,11 +7,11 @@ use Rattle.fall.proofs.FloatLaws.{speed-by-rounds}
 use Rattle.fall.proofs.speed_of_two.Statement.{statement}
 use Rattle.fall.proofs.speed_of_two.Tie as tie
 
-speed-requires : tie.Need-speed-requires
-speed-requires c κs = search needs
+speed-of-requires : tie.Need-speed-of-requires
+speed-of-requires c κs = search needs
 
-speed-requires-2 : tie.Need-speed-requires-2
-speed-requires-2 c κs = search needs
+speed-of-requires-2 : tie.Need-speed-of-requires-2
+speed-of-requires-2 c κs = search needs
 
 returns : tie.Need-returns
 returns c = search needs
@@ -33,4 +33,4 @@ returns-2 c =
 pub speed-of-two-spec : {M : Type 1} → statement M
 speed-of-two-spec =
     tie.close
-    (tie.spec speed-requires speed-requires-2 returns six-rounds-of-two-requires returns-2)
+    (tie.spec speed-of-requires speed-of-requires-2 returns six-rounds-of-two-requires returns-2)

@@ -1,10 +1,10 @@
--- `speed` takes the six rounds, or 0 where both speeds are 0.
+-- `speed_of` takes the six rounds, or 0 where both speeds are 0.
 use mathlib.Core.Path.{sym}
 use borrow.Author.Needs.{needs}
 use Rattle.fall.specs.Step.{speedOf}
 use Rattle.fall.proofs.Literals.{zero-is}
-use Rattle.fall.proofs.speed.Statement.{statement}
-use Rattle.fall.proofs.speed.Tie as tie
+use Rattle.fall.proofs.speed_of.Statement.{statement}
+use Rattle.fall.proofs.speed_of.Tie as tie
 
 returns : tie.Need-returns
 unfolding speedOf
@@ -17,5 +17,5 @@ returns-2 : tie.Need-returns-2
 unfolding speedOf
 returns-2 c = simp (sym zero-is, c .before .before .before .before .if1 .left) (c .six-rounds .ensures)
 
-pub speed-spec : {M : Type 1} → statement M
-speed-spec = tie.close (tie.spec returns six-rounds-requires returns-2)
+pub speed-of-spec : {M : Type 1} → statement M
+speed-of-spec = tie.close (tie.spec returns six-rounds-requires returns-2)
