@@ -14,6 +14,7 @@ import ground_risk as g
 # A point shows the states after every so many steps before the end.
 SHOWN_EVERY = 200
 
+# The proof in crates/descent_points finds the falls by their place in this list, so that a new one goes last.
 # Why they are here, then dimension (mm), mass (g), speed (cm/s), height (cm), budget (steps).
 FALLS = (
     ("a few steps: with the last one of the budget, and with one fewer", (

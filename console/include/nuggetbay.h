@@ -106,7 +106,7 @@ uint32_t nb_version(void);
     R(16, NB_FRONTAL_DIMENSION, "no frontal area for this dimension: 1,000 to 40,000 mm is allowed") \
     R(17, NB_HEIGHT_OR_BUDGET, "height or step budget out of range: 1 to 50,000 cm and 1 to 20,000 steps are allowed") \
     R(18, NB_BUDGET_SPENT, "step budget spent before the ground is reached: more steps are needed, at most 20,000 are allowed") \
-    R(19, NB_NEGATIVE_SPEED, "a step makes a speed negative: too light for its frontal area and speed, more mass is needed for steps of 0.01 s")
+    R(19, NB_NEGATIVE_SPEED, "a step makes a speed negative: too light for its frontal area and speed, more mass or less speed is needed for steps of 0.01 s")
 
 #define NB_REFUSAL_NUMBER(number, name, message) name = number,
 enum nb_refusal { NB_REFUSALS(NB_REFUSAL_NUMBER) NB_ACCEPTED = 0 };

@@ -80,7 +80,7 @@ refusals! {
     16 FrontalDimension "no frontal area for this dimension: 1,000 to 40,000 mm is allowed"
     17 HeightOrBudget "height or step budget out of range: 1 to 50,000 cm and 1 to 20,000 steps are allowed"
     18 BudgetSpent "step budget spent before the ground is reached: more steps are needed, at most 20,000 are allowed"
-    19 NegativeSpeed "a step makes a speed negative: too light for its frontal area and speed, more mass is needed for steps of 0.01 s"
+    19 NegativeSpeed "a step makes a speed negative: too light for its frontal area and speed, more mass or less speed is needed for steps of 0.01 s"
 }
 
 impl Refusal {

@@ -65,11 +65,11 @@ module _ (b : Body) (h : Float) (s : Fall) {exact p : Fall} (made : exact ≡ ne
       let down-made = sym downward ∙ ap (λ (x : Fall). x .downward) made in
       λ i. record { horizontal = forward-made i; downward = down-made i; fallen = (known .fallen-is ∙ ap (fallenTo s) down-made) i }
 
-  forward : speedNegative p ≡ false
-  forward = simp (above-not-below (p .horizontal) (above .0), above-not-below (p .downward) (above .1))
+  not-negative : speedNegative p ≡ false
+  not-negative = simp (above-not-below (p .horizontal) (above .0), above-not-below (p .downward) (above .1))
 
   short : groundReached h p ≡ false
   short = not-true _ (both (lt (whole 0) (p .horizontal) && lt (whole 0) (p .downward)) (not (groundReached h p)) flies .1)
 
   pub one-on : (budget n : ℕ) → n < budget → fallFrom b h (budget - n) n s ≡ fallFrom b h (budget - (n + 1)) (n + 1) p
-  one-on budget n l = in-the-air b h budget n s l confirmed forward short
+  one-on budget n l = in-the-air b h budget n s l confirmed not-negative short

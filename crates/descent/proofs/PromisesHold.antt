@@ -139,7 +139,7 @@ module _ (w m v height budget : ℕ) where
           record {
             inputs = no-input 18 spent-number (inr (le-refl 18));
             eighteen = (λ _. (r, air-from budget air), λ _. spent-number);
-            nineteen = (λ e. absurd (other 18 19 spent-number (λ q. absurd (omega arith)) e), λ p. absurd (false≢true (sym (air (p .number) (p .least) (p .most) .forward) ∙ p .holds .negative)));
+            nineteen = (λ e. absurd (other 18 19 spent-number (λ q. absurd (omega arith)) e), λ p. absurd (false≢true (sym (air (p .number) (p .least) (p .most) .not-negative) ∙ p .holds .negative)));
             none = (λ e. absurd (other 18 0 spent-number (λ q. absurd (omega arith)) e), λ p. absurd (false≢true (sym (air (p .number) (p .least) (p .most) .short) ∙ p .holds .reached)));
             listed = rw spent-number (inr (inr (inr (inr (inr (inr (inl refl)))))));
             if-accepted = λ e. absurd (other 18 0 spent-number (λ q. absurd (omega arith)) e);
@@ -164,11 +164,11 @@ module _ (w m v height budget : ℕ) where
         landed-number = ap (λ (x : Descent). x .refusal) landed-there
 
         ends : EndsAt w m v height (suc n)
-        ends = record { reached = g; forward = e; earlier = λ k l. air-from n air k (le-of-suc-le-suc l) }
+        ends = record { reached = g; not-negative = e; earlier = λ k l. air-from n air k (le-of-suc-le-suc l) }
 
         not-19 : (k : ℕ) → 1 ≤ k → TurnsNegativeAt w m v height k → ⊥
         not-19 k l t =
-            by-number k (λ q. false≢true (sym (air k l q .forward) ∙ t .negative))
+            by-number k (λ q. false≢true (sym (air k l q .not-negative) ∙ t .negative))
             (λ q. false≢true (sym e ∙ ap (λ (i : ℕ). speedNegative (stateOf w m v i)) (sym q) ∙ t .negative))
             (λ q. false≢true (sym (t .short (suc n) q) ∙ g))
 
@@ -194,14 +194,14 @@ module _ (w m v height budget : ℕ) where
         not-landed : (k : ℕ) → 1 ≤ k → EndsAt w m v height k → ⊥
         not-landed k l t =
             by-number k (λ q. false≢true (sym (air k l q .short) ∙ t .reached))
-            (λ q. false≢true (sym (t .forward) ∙ ap (λ (i : ℕ). speedNegative (stateOf w m v i)) q ∙ e))
-            (λ q. false≢true (sym (t .earlier (suc n) q .forward) ∙ e))
+            (λ q. false≢true (sym (t .not-negative) ∙ ap (λ (i : ℕ). speedNegative (stateOf w m v i)) q ∙ e))
+            (λ q. false≢true (sym (t .earlier (suc n) q .not-negative) ∙ e))
 
         turned-promise : DescentPromise w m v height budget a
         turned-promise =
             record {
               inputs = no-input 19 turned-number (inr (lit≤ tt));
-              eighteen = (λ q. absurd (other 19 18 turned-number (λ q. absurd (omega arith)) q), λ p. absurd (false≢true (sym (p .1 (suc n) h .forward) ∙ e)));
+              eighteen = (λ q. absurd (other 19 18 turned-number (λ q. absurd (omega arith)) q), λ p. absurd (false≢true (sym (p .1 (suc n) h .not-negative) ∙ e)));
               nineteen = (λ _. record { ranges = r; number = suc n; least = omega arith; most = h; holds = record { negative = e; short = λ k l. air-from n air k (le-of-suc-le-suc l) .short } }, λ _. turned-number);
               none = (λ q. absurd (other 19 0 turned-number (λ q. absurd (omega arith)) q), λ p. absurd (not-landed (p .number) (p .least) (p .holds)));
               listed = rw turned-number (inr (inr (inr (inr (inr (inr (inr (inl refl))))))));

@@ -46,7 +46,7 @@ module _ (w m v height : ℕ) where
   through budget (suc n) h air =
       let here = air (suc n) (omega arith) (le-refl _) in
       through budget n (omega arith) (λ k l q. air k l (omega arith))
-      ∙ in-the-air (bodyOf w m) (inMetres height) budget n (at n) h (made n) (here .forward) (here .short)
+      ∙ in-the-air (bodyOf w m) (inMetres height) budget n (at n) h (made n) (here .not-negative) (here .short)
       ∙ ap (λ (k : ℕ). left (budget - k) k (at (suc n))) (add-one n)
 
   -- all in the air; the first that isn't, state n + 1, at the ground or with a negative speed
@@ -84,7 +84,7 @@ module _ (w m v height : ℕ) where
       by-tests : AirTo budget → (s t : Bool) → speedNegative (at (suc budget)) ≡ s → groundReached (inMetres height) (at (suc budget)) ≡ t → Outcome (suc budget)
       by-tests air true t e g = turning budget (omega arith) air e
       by-tests air false true e g = landing budget (omega arith) air e g
-      by-tests air false false e g = lasting (one-more budget air record { short = g; forward = e })
+      by-tests air false false e g = lasting (one-more budget air record { short = g; not-negative = e })
 
       by-outcome : Outcome budget → Outcome (suc budget)
       by-outcome (lasting air) = by-tests air (speedNegative (at (suc budget))) (groundReached (inMetres height) (at (suc budget))) refl refl
@@ -102,7 +102,7 @@ module _ (w m v height : ℕ) where
       let speed-is = division-nearest v 100 (le-trans k (lit≤ tt)) (lit< tt) (lit≤ tt) in
       record {
         short = rw height-is (beyond height 100 l (lit< tt) (le-refl _));
-        forward = rw speed-is (simp (not-below v 100, zero-forward));
+        not-negative = rw speed-is (simp (not-below v 100, zero-forward));
       }
 
   -- the first state and those in the air after it

@@ -20,12 +20,12 @@ stateOf w m v n = stateAfter (bodyOf w m) (firstState v) n
 -- short of the height, with no negative speed
 pub record InTheAir (height : ℕ) (s : Fall) : Type 0 where
   pub short : groundReached (inMetres height) s ≡ false
-  pub forward : speedNegative s ≡ false
+  pub not-negative : speedNegative s ≡ false
 
 -- "The fall ends at the first state whose distance is at least the height."
 pub record EndsAt (w m v height n : ℕ) : Type 0 where
   pub reached : groundReached (inMetres height) (stateOf w m v n) ≡ true
-  pub forward : speedNegative (stateOf w m v n) ≡ false
+  pub not-negative : speedNegative (stateOf w m v n) ≡ false
   -- every earlier state, the first one too
   pub earlier : (k : ℕ) → k < n → InTheAir height (stateOf w m v k)
 
@@ -65,7 +65,9 @@ pub record DescentPromise (w m v height budget : ℕ) (a : Descent) : Type 0 whe
   pub inputs : (n : ℕ) → OneOf n (numbers (descentTests w m v height budget)) → a .refusal ≡ n ↔ FirstToHold (descentTests w m v height budget) n
   -- "18 when the definition's state after the whole budget is still short of the height": every state of the budget is in the air
   pub eighteen : a .refusal ≡ 18 ↔ DescentInRange w m v height budget × ((k : ℕ) → k ≤ budget → InTheAir height (stateOf w m v k))
+  -- such a state comes within the budget, and none before it has reached the ground
   pub nineteen : a .refusal ≡ 19 ↔ WithinBudget w m v height budget (TurnsNegativeAt w m v height)
+  -- no refusal: a state within the budget has reached the ground, and neither it nor one before it has a negative speed
   pub none : a .refusal ≡ 0 ↔ WithinBudget w m v height budget (EndsAt w m v height)
   pub listed : OneOf (a .refusal) (0 ∷ 1 ∷ 2 ∷ 3 ∷ 16 ∷ 17 ∷ 18 ∷ 19 ∷ [])
   pub if-accepted : a .refusal ≡ 0 → Landed w m v height budget a

@@ -25,8 +25,10 @@ pub struct Descent {
     pub end: Fall,
 }
 
+// in cm
 const HEIGHT_MAX: u32 = 50_000;
 
+// in steps
 const BUDGET_MAX: u32 = 20_000;
 
 fn refused_with(refusal: u8) -> Descent
@@ -79,7 +81,17 @@ fn fall_from(b: Body, height: f64, budget: u32, first: Fall) -> Descent
         }
         let terminal = state.downward == at.state.downward;
         let speeds = with_latest(at.speeds, speed_of(at.state));
-        at = confirmed_steps(b, height, budget, terminal, Progress { state, steps, speeds });
+        at = confirmed_steps(
+            b,
+            height,
+            budget,
+            terminal,
+            Progress {
+                state,
+                steps,
+                speeds,
+            },
+        );
     }
     refused_with(18)
 }

@@ -9,7 +9,7 @@ use fall::Body;
 use fall::Fall;
 use fall::step_of_two;
 
-// The speeds of the last four states, the latest first.
+// The speeds of the last four states, the latest first, found or predicted.
 pub struct Speeds(pub f64, pub f64, pub f64, pub f64);
 
 // A state, the number of steps that made it, and the speeds of the states before it.
@@ -30,20 +30,25 @@ fn predicted_speed(v: Speeds, s: Fall) -> f64 {
     guess + (sum - guess * guess) * (0.5 / guess)
 }
 
-// The next state, of a predicted speed; `slowing` is what the drag of 1 m/s takes of 1 m/s in a step. At terminal speed the downward
+// The next state, of a predicted speed; `slowing_factor` times that speed times another is what a step takes of the other. At terminal speed the downward
 // speed stays as it is.
-fn predicted(slowing: f64, terminal: bool, s: Fall, speed: f64) -> Fall
+fn predicted(slowing_factor: f64, terminal: bool, s: Fall, speed: f64) -> Fall
     ensures { λ r. ⌜ Predicted s r ⌝ }
 {
-    let gain = if terminal { 0.0 } else { 0.0981 - speed * (slowing * s.downward) };
+    let gain = if terminal {
+        0.0
+    } else {
+        0.0981 - speed * (slowing_factor * s.downward)
+    };
     let downward = s.downward + gain;
     Fall {
-        horizontal: s.horizontal - speed * (slowing * s.horizontal),
+        horizontal: s.horizontal - speed * (slowing_factor * s.horizontal),
         downward,
         fallen: s.fallen + 0.5 * (s.downward + downward) * 0.01,
     }
 }
 
+// Above zero two f64 that compare as equal are the same; 0 and -0 compare as equal and aren't.
 fn in_flight(height: f64, s: Fall) -> bool
     ensures { λ r. ⌜ r ≡ inFlight height s ⌝ }
 {
@@ -56,7 +61,8 @@ fn same_speeds(s: Fall, t: Fall) -> bool
     (s.horizontal == t.horizontal) & (s.downward == t.downward)
 }
 
-// Steps on, two at a time, as long as both are confirmed and in the air: what is left of the fall is the same.
+// Steps on, two at a time, as long as both are confirmed and in the air: what is left of the fall is the same. It begins with four
+// speeds, and with a horizontal speed above zero.
 pub fn confirmed_steps(
     b: Body,
     height: f64,
@@ -68,14 +74,14 @@ pub fn confirmed_steps(
     ensures { λ r. ⌜ (from .steps ≤ r .steps) × (r .steps ≤ budget)
         × (fallFrom b height (budget - from .steps) (from .steps) (from .state) ≡ fallFrom b height (budget - r .steps) (r .steps) (r .state)) ⌝ }
 {
-    let slowing = b.drag_factor / b.mass * 0.01;
+    let slowing_factor = b.drag_factor / b.mass * 0.01;
     let mut at = from;
     while ((1 < budget - at.steps) & (3 < at.steps)) & (0.0 < at.state.horizontal) {
         let speed = predicted_speed(at.speeds, at.state);
-        let one = predicted(slowing, terminal, at.state, speed);
+        let one = predicted(slowing_factor, terminal, at.state, speed);
         let speeds = with_latest(at.speeds, speed);
         let next_speed = predicted_speed(speeds, one);
-        let two = predicted(slowing, terminal, one, next_speed);
+        let two = predicted(slowing_factor, terminal, one, next_speed);
         if !(in_flight(height, one) & in_flight(height, two)) {
             return at;
         }

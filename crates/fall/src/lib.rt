@@ -99,14 +99,19 @@ fn round_of_two(sum: Two, guess: Two) -> Two
 fn speed_of_two(s: Fall, t: Fall) -> Two
     ensures { λ r. ⌜ (r .0 ≡ speedOf s) × (r .1 ≡ speedOf t) ⌝ }
 {
-    if ((s.horizontal == 0.0) & (s.downward == 0.0)) | ((t.horizontal == 0.0) & (t.downward == 0.0)) {
+    if ((s.horizontal == 0.0) & (s.downward == 0.0))
+        | ((t.horizontal == 0.0) & (t.downward == 0.0))
+    {
         return Two(speed_of(s), speed_of(t));
     }
     let sum = Two(
         s.horizontal * s.horizontal + s.downward * s.downward,
         t.horizontal * t.horizontal + t.downward * t.downward,
     );
-    six_rounds_of_two(sum, Two(s.horizontal + s.downward, t.horizontal + t.downward))
+    six_rounds_of_two(
+        sum,
+        Two(s.horizontal + s.downward, t.horizontal + t.downward),
+    )
 }
 
 pub struct TwoFalls {

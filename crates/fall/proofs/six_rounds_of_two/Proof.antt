@@ -18,8 +18,7 @@ returns c =
     let args = first .before .args in
     let one = first .round-of-two .ensures in
     let two = second .round-of-two2 .ensures in
-    let equal = both _ _ (c .if1 .taken) in
-    (
+    let equal = both _ _ (c .if1 .taken) in (
       two-rounds-enough (args .sum .0) (args .first .0) (one .0) (two .0) (equal .0),
       two-rounds-enough (args .sum .1) (args .first .1) (one .1) (two .1) (equal .1),
     )
@@ -46,8 +45,7 @@ returns-2 c =
     let three = c .before .before .before .round-of-two3 .ensures in
     let four = c .before .before .round-of-two4 .ensures in
     let five = c .before .round-of-two5 .ensures in
-    let six = c .round-of-two6 .ensures in
-    (
+    let six = c .round-of-two6 .ensures in (
       six-made (args .sum .0) (args .first .0) (one .0) (two .0) (three .0) (four .0) (five .0) (six .0),
       six-made (args .sum .1) (args .first .1) (one .1) (two .1) (three .1) (four .1) (five .1) (six .1),
     )

@@ -24,8 +24,7 @@ returns-2 c =
     let test = c .before .before .before .before .before .before .before in
     let args = test .before .before .before .before .before .args in
     let other = neither _ _ (test .if1 .left) in
-    let made = c .six-rounds-of-two .ensures in
-    (
+    let made = c .six-rounds-of-two .ensures in (
       speed-by-rounds (args .s) (simp (sym zero-is) (other .0)) (made .0),
       speed-by-rounds (args .t) (simp (sym zero-is) (other .1)) (made .1),
     )

@@ -98,8 +98,7 @@ loop-again c =
     let steps = exact .step-of-two .ensures in
     let more : 1 < args .budget - at .steps = ltb-true 1 _ (both _ _ (both _ _ (turn .if1 .taken) .0) .0) in
     let one = one-on (args .b) (args .height) (at .state) (steps .0) (guess-1 .predicted .ensures) (sym (first .same-speeds .ensures) ∙ same .0) (sym (flight-1 .in-flight .ensures) ∙ flying .0) (args .budget) (at .steps) (omega (arith, more)) in
-    let two = one-on (args .b) (args .height) (guess-1 .predicted .result) (steps .1) (guess-2 .predicted2 .ensures) (sym (second .same-speeds2 .ensures) ∙ same .1) (sym (flight-2 .in-flight2 .ensures) ∙ flying .1) (args .budget) (at .steps + 1) (omega (arith, more)) in
-    (
+    let two = one-on (args .b) (args .height) (guess-1 .predicted .result) (steps .1) (guess-2 .predicted2 .ensures) (sym (second .same-speeds2 .ensures) ∙ same .1) (sym (flight-2 .in-flight2 .ensures) ∙ flying .1) (args .budget) (at .steps + 1) (omega (arith, more)) in (
       omega (arith, here .loop .inv .0),
       omega (arith, more),
       here .loop .inv .2 ∙ one ∙ two ∙ ap (λ (n : ℕ). fallFrom (args .b) (args .height) (args .budget - n) n (guess-2 .predicted2 .result)) (omega arith),
