@@ -253,18 +253,22 @@ fn is_negative(fall: Fall) -> bool {
     (fall.horizontal < 0.0) | (fall.downward < 0.0)
 }
 
-/// The speeds of two states at once, in lanes. If the second round changes nothing in either, no later one does.
+/// The speeds of two states at once, in lanes. A round keeps twice its guess: to halve it is exact, and the next division needn't
+/// wait for that. If the second round changes nothing in either, no later one does.
 fn speeds_of(one: Fall, other: Fall) -> [f64; 2] {
     let horizontal = [one.horizontal, other.horizontal];
     let downward = [one.downward, other.downward];
     let sum = lanes(|i| horizontal[i] * horizontal[i] + downward[i] * downward[i]);
-    let round = |guess: [f64; 2]| lanes(|i| (guess[i] + sum[i] / guess[i]) * 0.5);
-    let first = round(lanes(|i| horizontal[i] + downward[i]));
+    let twice_sum = lanes(|i| sum[i] + sum[i]);
+    let guess = lanes(|i| horizontal[i] + downward[i]);
+    let first = lanes(|i| guess[i] + sum[i] / guess[i]);
+    let round = |twice: [f64; 2]| lanes(|i| 0.5 * twice[i] + twice_sum[i] / twice[i]);
     let second = round(first);
     if (second[0] == first[0]) & (second[1] == first[1]) {
-        return second;
+        return lanes(|i| 0.5 * first[i]);
     }
-    round(round(round(round(second))))
+    let sixth = round(round(round(round(second))));
+    lanes(|i| 0.5 * sixth[i])
 }
 
 fn lanes(lane: impl Fn(usize) -> f64) -> [f64; 2] {
