@@ -23,7 +23,7 @@ PROVED_PROGRAM = target/bin/case
 CALLS = $(MADE)/calls
 SOURCES := crates.txt $(shell find crates -name '*.rt' -o -name '*.antt')
 CARGO = cd console && cargo
-FAULTS = a b c m t f r n p j o z
+FAULTS = a b c m t f r n p j o z d s v l e k g
 
 # Where the installed files stand. A space or another character that a shell or pkg-config takes apart is refused before anything is
 # made.
@@ -83,8 +83,8 @@ $(SHARED): $(ARCHIVE) console/library/exports.map
 $(PROGRAM): console/program/nuggetbay-case.c $(ARCHIVE) $(HEADER)
 	$(CC) $(LIBRARY_CFLAGS) -D_DEFAULT_SOURCE -Iconsole/include $< $(ARCHIVE) -o $@
 
-# the examples: case for console/run-case, high_angle for README
-$(MADE)/case-in-words $(MADE)/high_angle-in-words: $(MADE)/%-in-words: console/examples/%.c $(ARCHIVE) $(HEADER)
+# the examples: case for console/run-case, the others for README
+$(MADE)/case-in-words $(MADE)/high_angle-in-words $(MADE)/descent-in-words: $(MADE)/%-in-words: console/examples/%.c $(ARCHIVE) $(HEADER)
 	$(CC) $(CFLAGS) -Iconsole/include $< $(ARCHIVE) -o $@
 
 install: all
@@ -125,14 +125,15 @@ $(MADE)/stack-used: console/tests/stack_used.c $(HEADER) $(ARCHIVE)
 test-stack: $(ARCHIVE) $(MADE)/stack-used
 	python3 console/tests/stack.py $(ARCHIVE) $(MADE)/stack-used
 
-$(CALLS): console/tests/boundary_calls.py $(addprefix checker/,ground_risk.py library.py random_cases.py flagged_aircraft.py) | $(MADE)
+$(CALLS): console/tests/boundary_calls.py $(addprefix checker/,$(addsuffix .py,ground_risk library random_cases flagged_aircraft \
+    high_angle_aircraft high_angle_points descent_aircraft descent_points)) | $(MADE)
 	python3 console/tests/boundary_calls.py $@
 
 $(MADE)/boundary: console/tests/boundary.c $(HEADER) $(ARCHIVE)
 	$(CC) $(CFLAGS) -Iconsole/include console/tests/boundary.c $(ARCHIVE) -o $@
 
 $(MADE)/boundary-faults: console/tests/boundary.c console/tests/boundary_faults.c $(HEADER) $(ARCHIVE)
-	$(CC) $(CFLAGS) -Wl,--wrap=nb_case,--wrap=nb_high_angle -Iconsole/include console/tests/boundary.c console/tests/boundary_faults.c $(ARCHIVE) -o $@
+	$(CC) $(CFLAGS) -Wl,--wrap=nb_case,--wrap=nb_high_angle,--wrap=nb_descent -Iconsole/include console/tests/boundary.c console/tests/boundary_faults.c $(ARCHIVE) -o $@
 
 # every lent buffer against unreadable memory on both sides, and NULL where nothing is lent
 test-lent: $(MADE)/boundary $(CALLS)

@@ -8,6 +8,7 @@ or those of the item of document 02 that is named before them.
 from bisect import bisect_left, bisect_right
 from collections import namedtuple
 from fractions import Fraction
+from itertools import islice
 from typing import NamedTuple
 
 # Every refusal, in the words of document 01's lists, from 16 on of document
@@ -29,6 +30,9 @@ REFUSALS = {
     14: "a byte that isn't a digit or line end in its place",
     15: "a buffer shorter than 43 bytes, for refused cases too",
     16: "after 1 to 3, the dimension is outside 1,000 to 40,000 mm",
+    17: "after 1, 2, 3 and 16, the height is outside 1 to 50,000 cm or the step budget outside 1 to 20,000",
+    18: "the definition's state after the whole budget is still short of the height",
+    19: "a step makes either speed negative",
 }
 
 # ---------------------------------------------------------------------------
@@ -401,6 +405,114 @@ def exact_high_angle_column(w, m, v):
     # by the same comparison
     power = exact_high_angle_power(w, m, v)
     return 0 if power is None else first_column(power, 5)
+
+
+# ---------------------------------------------------------------------------
+# The descent from the operating height: document 02 item 4, quoted here
+# ---------------------------------------------------------------------------
+
+# Python's floats are the item's f64. Each operation below is one of the item's,
+# in its order, and rounded by itself.
+
+# "Each step is 0.01 s."
+STEP = 0.01
+# "the height is outside 1 to 50,000 cm or the step budget outside 1 to 20,000."
+HEIGHT_RANGE = (1, 50_000)
+BUDGET_RANGE = (1, 20_000)
+
+
+class Fall(NamedTuple):
+    # "The state is horizontal speed, downward speed and distance fallen, in f64."
+    horizontal: float
+    downward: float
+    fallen: float
+
+
+def speed_of(state):
+    x, y = state.horizontal, state.downward
+    # "speed is 0 when both are 0."
+    if x == 0 and y == 0:
+        return 0.0
+    # "Speed is found from the sum of the squares by six rounds: sum over guess,
+    #  added to the guess, times 0.5. The first guess is the two speeds added"
+    squares = x * x + y * y
+    guess = x + y
+    for _ in range(6):
+        guess = (squares / guess + guess) * 0.5
+    return guess
+
+
+def next_state(state, area, mass):
+    """The state a step later, for a frontal area in square metres and a mass in kilograms."""
+    # "Drag per speed is 0.5 × 1.225 × frontal area × 0.8 × speed, in that order."
+    drag = 0.5 * 1.225 * area * 0.8 * speed_of(state)
+    # "Both new speeds come from the old state. A speed's slowing is drag per
+    #  speed × that speed / mass. The new horizontal speed is the old less
+    #  (slowing × step)."
+    horizontal = state.horizontal - drag * state.horizontal / mass * STEP
+    # "The new downward speed is the old plus ((9.81 less slowing) × step)."
+    downward = state.downward + (9.81 - drag * state.downward / mass) * STEP
+    # "The distance grows by 0.5 × (old plus new downward speed) × step."
+    fallen = state.fallen + 0.5 * (state.downward + downward) * STEP
+    return Fall(horizontal, downward, fallen)
+
+
+def states(w, m, v):
+    """The first state, then without end the state after each step."""
+    # "Inputs become metres, kilograms and square metres by one division each."
+    area, mass = frontal_area(w) / 1_000_000, m / 1000
+    # "The first state is the cruise speed, 0 and 0."
+    state = Fall(v / 100, 0.0, 0.0)
+    while True:
+        yield state
+        state = next_state(state, area, mass)
+
+
+def above_60(state):
+    # "The angle is above 60 degrees when downward speed squared exceeds 3 ×
+    #  (horizontal speed squared)."
+    squared = state.horizontal * state.horizontal
+    return 1 if state.downward * state.downward > 3 * squared else 0
+
+
+class Descent(NamedTuple):
+    # "The answer gives that verdict, the end state and the number of steps"
+    refusal: int
+    above_60: int
+    steps: int
+    end: Fall
+
+
+def refused_descent(refusal):
+    # as a refused sheet, all zeros
+    return Descent(refusal, 0, 0, Fall(0.0, 0.0, 0.0))
+
+
+def descent_refusal(w, m, v, height, budget):
+    # "17 when, after 1, 2, 3 and 16, the height is outside 1 to 50,000 cm or the
+    #  step budget outside 1 to 20,000."
+    refusal = multirotor_refusal(w, m, v)
+    if refusal == 0 and not (within(height, HEIGHT_RANGE) and within(budget, BUDGET_RANGE)):
+        return 17
+    return refusal
+
+
+def descent(w, m, v, height, budget):
+    refusal = descent_refusal(w, m, v, height, budget)
+    if refusal != 0:
+        return refused_descent(refusal)
+    # "the number of steps, which is the number of states made after the first."
+    for steps, state in enumerate(islice(states(w, m, v), 1, budget + 1), 1):
+        # "19 when a step makes either speed negative, tested at each new state
+        #  before the ground and before 18."
+        if state.horizontal < 0 or state.downward < 0:
+            return refused_descent(19)
+        # "The fall ends at the first state whose distance is at least the height."
+        if state.fallen >= height / 100:
+            return Descent(0, above_60(state), steps, state)
+    # "18 when the definition's state after the whole budget is still short of
+    #  the height."
+    return refused_descent(18)
 
 
 # ---------------------------------------------------------------------------

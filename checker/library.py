@@ -5,6 +5,7 @@ declarations by console/tests/declarations.py.
 """
 
 import ctypes
+import struct as binary
 from array import array
 from pathlib import Path
 from typing import Callable, NamedTuple
@@ -15,6 +16,7 @@ ROOT = Path(__file__).resolve().parent.parent
 SHARED = ROOT / "target" / "console" / "libnuggetbay.so"
 
 U8, U16, U32, U64, I8 = ctypes.c_uint8, ctypes.c_uint16, ctypes.c_uint32, ctypes.c_uint64, ctypes.c_int8
+F64 = ctypes.c_double
 
 # ---------------------------------------------------------------------------
 # The structs of console/include/nuggetbay.h
@@ -36,6 +38,8 @@ SheetAnswer = struct("SheetAnswer", ("refusal", U8), ("sheet", Sheet))
 HighAngle = struct(
     "HighAngle", ("refusal", U8), ("column", U8), ("flag", U8), ("frontal_area", U64), ("joules", Bracket), ("factor", Bracket),
     ("area", Bracket))
+Fall = struct("Fall", ("horizontal", F64), ("downward", F64), ("fallen", F64))
+Descent = struct("Descent", ("refusal", U8), ("above_60", U8), ("steps", U32), ("end", Fall))
 Footprint = struct("Footprint", ("refusal", U8), ("row", U8), ("place", U32), ("people", U64), ("cells", U32))
 IntrinsicClass = struct("IntrinsicClass", ("refusal", U8), ("class", U8))
 FinalClass = struct("FinalClass", ("refusal", U8), ("class", I8))
@@ -78,9 +82,22 @@ class Outcome(NamedTuple):
     left: list
 
 
+class Bits(int):
+    """The bits of a double. Two are the same where every bit is: 0.0 isn't -0.0, and a NaN is itself."""
+
+    @classmethod
+    def of(cls, number):
+        return cls.from_bytes(binary.pack("<d", number), "little")
+
+    def __repr__(self):
+        return f"{binary.unpack('<d', self.to_bytes(8, 'little'))[0]!r} ({int(self):#018x})"
+
+
 def flat(value):
-    """The numbers of nested tuples, in order."""
-    return [number for part in value for number in flat(part)] if isinstance(value, tuple) else [value]
+    """The numbers of nested tuples, in order, the doubles by their bits."""
+    if isinstance(value, tuple):
+        return [number for part in value for number in flat(part)]
+    return [Bits.of(value) if isinstance(value, float) else value]
 
 
 def outcome(answer, left=()):
@@ -125,6 +142,7 @@ LENT = written(counts=U32, marks=U64)
 OPERATIONS = {
     "sheet": Operation("nb_sheet", AIRCRAFT, SheetAnswer, lambda *a: outcome(g.sheet(*a))),
     "high angle": Operation("nb_high_angle", AIRCRAFT, HighAngle, lambda *a: outcome(g.high_angle(*a))),
+    "descent": Operation("nb_descent", (*AIRCRAFT, *numbers(height=U32, budget=U32)), Descent, lambda *a: outcome(g.descent(*a))),
     "footprint": Operation("nb_footprint", (*MAP, *numbers(cell_area=U32)), Footprint, lambda *a: outcome(g.footprint(*a))),
     "intrinsic class": Operation("nb_intrinsic_class", numbers(column=U8, row=U8, controlled=U8), IntrinsicClass,
                                  lambda *a: outcome(g.intrinsic_class(*a))),

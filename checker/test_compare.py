@@ -73,7 +73,8 @@ class SharesTest(unittest.TestCase):
             self.assertEqual(tuple(parameter.name for parameter in lent), g.Lent._fields)
         self.assertEqual(tuple(name for name, _ in library.CaseHead._fields_), g.Fields._fields)
         self.assertEqual(tuple(name for name, _ in library.FrameFields._fields_), g.Frame._fields)
-        self.assertEqual(tuple(name for name, _ in library.HighAngle._fields_), g.HighAngle._fields)
+        for struct, answer in ((library.HighAngle, g.HighAngle), (library.Descent, g.Descent), (library.Fall, g.Fall)):
+            self.assertEqual(tuple(name for name, _ in struct._fields_), answer._fields)
         self.assertEqual(["t" if name == "total" else name for name, _ in library.Sheet._fields_], list(g.Sheet._fields[1:]))
         self.assertEqual(set(compare.BUFFERS), set(g.Lent._fields))
 
@@ -82,6 +83,27 @@ class SharesTest(unittest.TestCase):
                 if {"text", "counts"} & {parameter.name for parameter in operation.parameters}]
         self.assertEqual(dear, ["footprint", "assessment", "reading", "case"])
         self.assertGreaterEqual(3 * sum(compare.SHARES[name] for name in dear), sum(compare.SHARES.values()))
+
+
+class BitsTest(unittest.TestCase):
+    def test_doubles_are_compared_by_their_bits(self):
+        plus, minus = (library.outcome((0, 0, 0, (zero, 1.5, 2.0))) for zero in (0.0, -0.0))
+        self.assertNotEqual(plus, minus)
+        self.assertEqual(plus.answer, [0, 0, 0, 0, 0x3ff8_0000_0000_0000, 0x4000_0000_0000_0000])
+        self.assertEqual(minus.answer[3], 2 ** 63)
+        none = library.outcome(float("nan"))
+        self.assertEqual(none, none._replace(answer=list(none.answer)))
+        self.assertNotEqual(library.outcome(0.1 + 0.2), library.outcome(0.3))
+
+    def test_in_words(self):
+        words = compare.in_words("descent", {"dimension": 1_000}, *(library.outcome((0, 0, 0, (0.5, number, 0.0))) for number in (0.3, 0.1 + 0.2)))
+        for words_of_one in ("0.3 (0x3fd3333333333333)", "0.30000000000000004 (0x3fd3333333333334)"):
+            self.assertIn(words_of_one, words)
+
+    def test_from_the_library(self):
+        answer = library.Descent(0, 1, 523, library.Fall(17.5, 42.25, -0.0))
+        self.assertEqual(library.outcome(library.numbers_of(answer)).answer,
+                         [0, 1, 523, *map(library.Bits.of, (17.5, 42.25, -0.0))])
 
 
 class CallsTest(unittest.TestCase):
@@ -162,11 +184,37 @@ class CallsTest(unittest.TestCase):
             for exact in (column, column - 1):
                 self.assertGreater(flagged[column, exact], 20, (column, exact))
 
+    def test_descents_are_drawn_at_every_edge(self):
+        answers, edges, budgets = Counter(), Counter(), Counter()
+        for n in range(3_000):
+            rng = random.Random(n)
+            values = compare.drawn(rng, ("dimension", "mass", "speed", "height", "budget"))
+            compare.falling(rng, values)
+            self.assertEqual(list(values), ["dimension", "mass", "speed", "height", "budget"])
+            *given, budget = values.values()
+            answer = g.descent(*given, budget)
+            answers[answer.refusal, answer.above_60] += 1
+            edges.update((name, values[name]) for name in values)
+            if answer.refusal == 0:
+                budgets["last" if answer.steps == budget else "later"] += 1
+            elif answer.refusal == 18 and budget < 20_000:
+                budgets["one short"] += g.descent(*given, budget + 1).refusal == 0
+        self.assertEqual(set(answers), {*((refusal, 0) for refusal in (1, 2, 3, 16, 17, 18, 19)), (0, 0), (0, 1)})
+        for answer, least in (((0, 0), 600), ((0, 1), 600), ((18, 0), 400), ((19, 0), 200), ((17, 0), 30)):
+            self.assertGreater(answers[answer], least, answer)
+        self.assertGreater(min(answers.values()), 10)
+        for name in ("height", "budget"):
+            for edge in compare.EDGES[name]:
+                self.assertGreater(edges[name, edge], 2, (name, edge))
+        for kind in ("last", "later", "one short"):
+            self.assertGreater(budgets[kind], 50, kind)
+
     def test_a_text_shows_the_call(self):
         values = {"dimension": 2_000, "mass": 3_000, "speed": 4_000}
         reading = g.read_case(compare.as_text("sheet", values), g.zeros())
         self.assertEqual((reading.refusal, reading.fields[:3]), (0, (2_000, 3_000, 4_000)))
-        self.assertIsNone(compare.as_text("high angle", values))
+        for name in ("high angle", "descent"):
+            self.assertIsNone(compare.as_text(name, values))
         self.assertIsNone(compare.as_text("intrinsic class", {"column": 1, "row": 2, "controlled": 0}))
         self.assertIsNone(compare.as_text("footprint", {"counts": [1], "marks": [0] * g.ROWS, "cell_area": 100}))
         self.assertEqual(compare.as_text("case", {"text": b"any"}), b"any")

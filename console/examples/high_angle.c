@@ -29,7 +29,7 @@ static void say(nb_high_angle_t a) {
     printf("safety factor: %u.%03u to %u.%03u\n", DECIMAL(a.factor.low), DECIMAL(a.factor.high));
     printf("critical area: %lu to %lu square centimetres\n", (unsigned long)a.area.low, (unsigned long)a.area.high);
     printf("column: %u%s\n", a.column, a.flag ? ", the exact one may be the column before" : "");
-    printf("only for a rotorcraft or multirotor that strikes the ground at more than 60 degrees, which isn't judged here\n");
+    printf("only for a rotorcraft or multirotor that strikes the ground at more than 60 degrees, which the descent judges\n");
 }
 
 /* The status, once all is written. */

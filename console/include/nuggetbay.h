@@ -31,7 +31,7 @@ extern "C" {
  * is new. A library serves a program that was built with this header where its major number is the same and nb_version() is at
  * least NB_VERSION. */
 #define NB_VERSION_MAJOR 3
-#define NB_VERSION_MINOR 1
+#define NB_VERSION_MINOR 2
 #define NB_VERSION_PATCH 0
 #define NB_VERSION (NB_VERSION_MAJOR * 10000 + NB_VERSION_MINOR * 100 + NB_VERSION_PATCH)
 
@@ -47,6 +47,7 @@ uint32_t nb_version(void);
  * tried. */
 #define NB_SHEET_STACK 64u
 #define NB_HIGH_ANGLE_STACK 40u
+#define NB_DESCENT_STACK 136u
 #define NB_FOOTPRINT_STACK 448u
 #define NB_INTRINSIC_CLASS_STACK 136u
 #define NB_FINAL_CLASS_STACK 176u
@@ -102,7 +103,10 @@ uint32_t nb_version(void);
     R(13, NB_TEXT_SIZE, "wrong text length: 33,959 bytes are needed") \
     R(14, NB_TEXT_BYTE, "wrong byte in the text: lower-case hexadecimal digits, and byte 10 at the end of each line, are allowed") \
     R(15, NB_FRAME_SIZE, "frame buffer too short: at least 43 bytes are needed") \
-    R(16, NB_FRONTAL_DIMENSION, "no frontal area for this dimension: 1,000 to 40,000 mm is allowed")
+    R(16, NB_FRONTAL_DIMENSION, "no frontal area for this dimension: 1,000 to 40,000 mm is allowed") \
+    R(17, NB_HEIGHT_OR_BUDGET, "height or step budget out of range: 1 to 50,000 cm and 1 to 20,000 steps are allowed") \
+    R(18, NB_BUDGET_SPENT, "step budget spent before the ground is reached: more steps are needed, at most 20,000 are allowed") \
+    R(19, NB_NEGATIVE_SPEED, "a step makes a speed negative: too light for its frontal area and speed, more mass or less speed is needed for steps of 0.01 s")
 
 #define NB_REFUSAL_NUMBER(number, name, message) name = number,
 enum nb_refusal { NB_REFUSALS(NB_REFUSAL_NUMBER) NB_ACCEPTED = 0 };
@@ -153,8 +157,8 @@ nb_sheet_answer_t nb_sheet(uint32_t dimension, uint32_t mass, uint32_t speed);
  * dimension, 3.14 x D x D, times a safety factor that comes from the energy of a fall at terminal speed.
  *
  * The guideline has this model for rotorcraft and multirotors only, not for hybrids with wings, and only where the aircraft
- * strikes the ground at an angle above 60 degrees, falling from the lowest operating height at the greatest speed. No function
- * here judges either; where one of them doesn't hold, the area is nb_sheet's. */
+ * strikes the ground at an angle above 60 degrees, falling from the lowest operating height at the greatest speed. nb_descent
+ * judges the angle; no function judges what kind of aircraft it is. Where one of them doesn't hold, the area is nb_sheet's. */
 typedef struct {
     uint8_t refusal;
     uint8_t column;        /* 1 to 5, from the high area, as on the sheet */
@@ -174,6 +178,44 @@ typedef struct {
  * Refusals: 1, 2, 3 as nb_sheet (1 for a dimension outside 50 to 100,000), then 16. Refusal 4 never occurs: no area of this model
  * is above the last limit. */
 nb_high_angle_t nb_high_angle(uint32_t dimension, uint32_t mass, uint32_t speed);
+
+/* ---- The descent ---- */
+
+/* The greatest height of a descent in cm, and its largest step budget. */
+#define NB_HEIGHT_MOST 50000u
+#define NB_BUDGET_MOST 20000u
+
+/* A state of a fall. */
+typedef struct {
+    double horizontal; /* the horizontal speed, m/s */
+    double downward;   /* the downward speed, m/s */
+    double fallen;     /* the distance fallen, m */
+} nb_fall_t;
+
+/* The fall of an aircraft from its operating height to the ground, annex 1 of the EASA guideline, in steps of 0.01 s: gravity of
+ * 9.81 m/s^2, and drag in air of 1.225 kg per cubic metre with a drag coefficient of 0.8 on nb_high_angle's frontal area.
+ *
+ * The verdict is the guideline's condition for the high impact angle model where the height is the lowest operating height and the
+ * speed the greatest one. That height is then a limitation in the operator's manual. */
+typedef struct {
+    uint8_t refusal;
+    uint8_t above_60; /* 1 where the end state's angle is above 60 degrees: downward speed squared exceeds 3 times horizontal speed
+                         squared; else 0 */
+    uint32_t steps;   /* the number of states made after the first, 1 to the budget: the fall takes that many times 0.01 s */
+    nb_fall_t end;    /* the first state whose distance fallen is at least the height */
+} nb_descent_t;       /* all zeros but the refusal where refused */
+
+/* The descent of an aircraft: its maximum characteristic dimension in mm (1,000 to 40,000), maximum take-off mass in g (50 to
+ * 25,000,000) and maximum cruise speed in cm/s (0 to 40,000), which is the horizontal speed of the first state; the height in cm
+ * (1 to NB_HEIGHT_MOST); and the step budget, the most steps that may be made (1 to NB_BUDGET_MOST). The budget bounds the time of
+ * the call and changes no answer that is given: who has none in mind passes NB_BUDGET_MOST, which is a fall of 200 s.
+ *
+ * Each operation is one of IEEE binary64, rounded to nearest, in the order that document 02 says and none fused with another, so
+ * that an answer is the same bits on every machine that computes so. The processor must be in the floating-point mode in which a
+ * C program starts: rounding to nearest, subnormal numbers kept, no traps.
+ * Refusals: 1, 2, 3, 16 as nb_high_angle; 17 where the height or the budget is out of range; then at each new state 19, where a
+ * speed is negative, before it is held to the height; 18 where the state after the whole budget is still short of the height. */
+nb_descent_t nb_descent(uint32_t dimension, uint32_t mass, uint32_t speed, uint32_t height, uint32_t budget);
 
 /* ---- The footprint on the map ---- */
 
@@ -295,6 +337,8 @@ NB_ASSERT(sizeof(nb_bracket_t) == 16, bracket_size);
 NB_ASSERT(sizeof(nb_sheet_t) == 104, sheet_size);
 NB_ASSERT(sizeof(nb_sheet_answer_t) == 112, sheet_answer_size);
 NB_ASSERT(sizeof(nb_high_angle_t) == 64, high_angle_size);
+NB_ASSERT(sizeof(nb_fall_t) == 24, fall_size);
+NB_ASSERT(sizeof(nb_descent_t) == 32, descent_size);
 NB_ASSERT(sizeof(nb_footprint_t) == 24, footprint_size);
 NB_ASSERT(sizeof(nb_intrinsic_class_t) == 2, intrinsic_class_size);
 NB_ASSERT(sizeof(nb_final_class_t) == 2, final_class_size);

@@ -124,6 +124,8 @@ static void take(void *into, size_t length) {
 #define SHEET_ANSWER(NUMBER, PART) NUMBER(refusal) PART(sheet, sheet)
 #define HIGH_ANGLE(NUMBER, PART) \
     NUMBER(refusal) NUMBER(column) NUMBER(flag) NUMBER(frontal_area) PART(bracket, joules) PART(bracket, factor) PART(bracket, area)
+#define FALL(NUMBER, PART) NUMBER(horizontal) NUMBER(downward) NUMBER(fallen)
+#define DESCENT(NUMBER, PART) NUMBER(refusal) NUMBER(above_60) NUMBER(steps) PART(fall, end)
 #define FOOTPRINT(NUMBER, PART) NUMBER(refusal) NUMBER(row) NUMBER(place) NUMBER(people) NUMBER(cells)
 #define INTRINSIC_CLASS(NUMBER, PART) NUMBER(refusal) NUMBER(class_number)
 #define FINAL_CLASS(NUMBER, PART) NUMBER(refusal) NUMBER(class_number)
@@ -136,7 +138,7 @@ static void take(void *into, size_t length) {
     NUMBER(low) NUMBER(high) NUMBER(column) NUMBER(flag) NUMBER(size_column) NUMBER(row_used) NUMBER(place) NUMBER(people) \
     NUMBER(intrinsic) NUMBER(final_class)
 
-/* A number's bytes as a number, whatever its type. */
+/* A number's bytes as a number, whatever its type: two doubles are the same where all their bits are. */
 static uint64_t bits(const void *number, size_t size) {
     uint64_t value = 0;
     memcpy(&value, number, size);
@@ -165,6 +167,8 @@ STRUCT(bracket, BRACKET)
 STRUCT(sheet, SHEET)
 STRUCT(sheet_answer, SHEET_ANSWER)
 STRUCT(high_angle, HIGH_ANGLE)
+STRUCT(fall, FALL)
+STRUCT(descent, DESCENT)
 STRUCT(footprint, FOOTPRINT)
 STRUCT(intrinsic_class, INTRINSIC_CLASS)
 STRUCT(final_class, FINAL_CLASS)
@@ -303,6 +307,18 @@ static void call_high_angle(void) {
     same_high_angle(&got, &wanted);
 }
 
+static void call_descent(void) {
+    TAKE(uint32_t, dimension);
+    TAKE(uint32_t, mass);
+    TAKE(uint32_t, speed);
+    TAKE(uint32_t, height);
+    TAKE(uint32_t, budget);
+    nb_descent_t wanted = take_descent();
+    starts("nb_descent", wanted.refusal);
+    nb_descent_t got = nb_descent(dimension, mass, speed, height, budget);
+    same_descent(&got, &wanted);
+}
+
 static void call_intrinsic_class(void) {
     TAKE(uint8_t, column);
     TAKE(uint8_t, row);
@@ -356,6 +372,7 @@ static void make_all_calls(int heap) {
         case 'A': call_assessment(heap); break;
         case 'S': call_sheet(); break;
         case 'H': call_high_angle(); break;
+        case 'D': call_descent(); break;
         case 'I': call_intrinsic_class(); break;
         case 'K': call_final_class(); break;
         case 'W': call_frame(heap); break;

@@ -15,6 +15,7 @@ comes what the checker says:
   A  assessment: the answer
   S  sheet: the answer
   H  high impact angle area: the answer
+  D  descent: the answer
   I  intrinsic class: the answer
   K  final class: the answer
   W  frame: u8 answer, u8 bytes written, the bytes
@@ -31,24 +32,26 @@ from struct import pack
 
 sys.path.insert(0, str(Path(__file__).resolve().parents[2] / "checker"))
 
+import descent_aircraft
+import descent_points
 import ground_risk as g
 import high_angle_aircraft
 import high_angle_points
 import random_cases as r
-from library import LENT, OPERATIONS, flat
+from library import F64, LENT, OPERATIONS, U64, flat
 
 # Every third of the random cases: some of each kind.
 CASES = range(0, r.CASES, 3)
 
 LETTERS = {"case": b"C", "reading": b"L", "footprint": b"F", "assessment": b"A", "sheet": b"S", "high angle": b"H",
-           "intrinsic class": b"I", "final class": b"K", "frame": b"W"}
+           "descent": b"D", "intrinsic class": b"I", "final class": b"K", "frame": b"W"}
 
 
 def packed(kind, numbers):
-    """The next numbers, one or a struct's, without gaps."""
+    """The next numbers, one or a struct's, without gaps; a double comes as its bits."""
     if issubclass(kind, ctypes.Structure):
         return b"".join(packed(field, numbers) for _, field in kind._fields_)
-    return bytes(kind(next(numbers)))
+    return bytes((U64 if kind is F64 else kind)(next(numbers)))
 
 
 def call(name, *values):
@@ -106,6 +109,7 @@ def random_case(number):
             + answered("reading", text, *lent)
             + answered("sheet", fields.dimension, fields.mass, fields.speed)
             + answered("high angle", fields.dimension, fields.mass, fields.speed)
+            + answered("descent", fields.dimension, fields.mass, fields.speed, 1 + number % 40, 20)
             + map_record(case.lent)
             + answered("footprint", *case.lent, fields.cell_area)
             + assessment_record(fields, case.lent))
@@ -193,6 +197,34 @@ def multirotors():
     return b"".join(answered("high angle", *aircraft) for aircraft in (*edges, *tuned, *worked))
 
 
+def descents():
+    """Descents at every end of every range by one, one number after the other, and at the frontal area's points; inside and outside
+    all ranges together; then falls at the edges of their answers."""
+    usual = (1_000, 10_000, 2_500, 1, 20_000)
+    ranges = (g.DIMENSION_RANGE, g.MASS_RANGE, g.SPEED_RANGE, g.HEIGHT_RANGE, g.BUDGET_RANGE)
+    near = [by_one((0, 2 ** 32 - 1, *limits)) for limits in ranges]
+    near[0] += by_one(dimension for dimension, _ in g.FRONTAL_POINTS)
+    edges = {(*usual[:place], number, *usual[place + 1:]) for place, numbers in enumerate(near) for number in numbers}
+    crossed = [[number for number in (low - 1, low, high + 1) if number >= 0] for low, high in ranges]
+    crossed[0] += [number + step for number in g.FRONTAL_RANGE for step in (-1, 0, 1)]
+    crossed[2].append(g.SPEED_RANGE[1])
+    worked = (point.given for point in descent_points.points())
+    return b"".join(answered("descent", *given) for given in (*sorted(edges), *product(*crossed), *worked, *falls()))
+
+
+def falls():
+    """Falls where rounding decides, with a budget of one step fewer than they take, as many, and one more; a full budget; and drawn
+    ones of every kind."""
+    source = random.Random(4)
+    close = [row[:4] for row in descent_aircraft.AT_HEIGHT + descent_aircraft.AT_60 + descent_aircraft.SUBNORMAL]
+    close += [(*row[1:], height) for row in descent_aircraft.STOPPED for height in (1, 2)]
+    for given in close:
+        steps = g.descent(*given, 20_000).steps
+        yield from ((*given, budget) for budget in {max(1, steps + step) for step in (-1, 0, 1)} | {1, 20_000})
+    yield from ((40_000, 50, 40, height, 20_000) for height in (4_001, 4_002))
+    yield from (draw(source) for draw in descent_aircraft.DRAWS for _ in range(150))
+
+
 def classes():
     out = b""
     words = [sum(digits // 5 ** place % 5 * 16 ** place for place in range(4)) for digits in range(5 ** 4)]
@@ -227,7 +259,7 @@ def frames():
     return out
 
 
-PARTS = (accepted_lengths, damaged_lengths, refused_lengths, map_lengths, sizes, multirotors, classes, frames)
+PARTS = (accepted_lengths, damaged_lengths, refused_lengths, map_lengths, sizes, multirotors, descents, classes, frames)
 
 
 def run_part(number):

@@ -1,12 +1,15 @@
-/* A whole case, and a high angle, that do one thing wrong, put before the library's own by the linker (--wrap), to show that
+/* A whole case, a high angle, and a descent, that do one thing wrong, put before the library's own by the linker (--wrap), to show that
  * boundary.c notices it. The environment's FAULT says which. */
 #include <nuggetbay.h>
 #include <stdlib.h>
+#include <string.h>
 
 uint8_t __real_nb_case(const uint8_t *text, size_t text_len, uint32_t *counts, size_t counts_len, uint64_t *marks,
                        size_t marks_len, uint8_t *frame, size_t frame_len);
 
 nb_high_angle_t __real_nb_high_angle(uint32_t dimension, uint32_t mass, uint32_t speed);
+
+nb_descent_t __real_nb_descent(uint32_t dimension, uint32_t mass, uint32_t speed, uint32_t height, uint32_t budget);
 
 static volatile uint8_t seen;
 
@@ -42,6 +45,30 @@ nb_high_angle_t __wrap_nb_high_angle(uint32_t dimension, uint32_t mass, uint32_t
     case 'j': if (answer.refusal == 0) answer.area.high++; break;                               /* another area */
     case 'o': if (answer.refusal == NB_FRONTAL_DIMENSION) answer.refusal = NB_DIMENSION; break; /* another refusal */
     case 'z': if (answer.refusal != 0) answer.frontal_area = dimension; break;                  /* a number under a refusal */
+    default: break;
+    }
+    return answer;
+}
+
+static double next_double(double number) {
+    uint64_t bits;
+    memcpy(&bits, &number, sizeof bits);
+    bits++;
+    memcpy(&number, &bits, sizeof number);
+    return number;
+}
+
+nb_descent_t __wrap_nb_descent(uint32_t dimension, uint32_t mass, uint32_t speed, uint32_t height, uint32_t budget) {
+    char which = fault();
+    if (which == 'g' && height > 1) height--; /* a centimetre too low */
+    nb_descent_t answer = __real_nb_descent(dimension, mass, speed, height, budget);
+    switch (which) {
+    case 'd': if (answer.refusal == 0) answer.end.fallen = next_double(answer.end.fallen); break; /* another last bit */
+    case 's': if (answer.refusal == 0) answer.steps++; break;                                     /* a step too many */
+    case 'v': if (answer.refusal == 0 && answer.end.horizontal == 0) answer.above_60 = 0; break;  /* another verdict */
+    case 'l': if (answer.refusal == NB_NEGATIVE_SPEED && budget == 1) answer.refusal = NB_BUDGET_SPENT; break; /* the later refusal */
+    case 'e': if (answer.refusal != 0) answer.end.downward = -0.0; break;                         /* a sign under a refusal */
+    case 'k': if (answer.refusal == NB_BUDGET_SPENT) answer.steps = budget; break;                /* a number under a refusal */
     default: break;
     }
     return answer;

@@ -5,7 +5,8 @@ usage: declarations.py
 The library's own declarations are every #[repr(C)] struct and every exported function in crates/*/src. They are declared again in
 the C header, in the Rust package and in checker/library.py: each must have the same structs and functions, with the same names,
 order and types, and none more. A slice is a pointer and its length in elements, `name` and `name_len`. The header's and the Rust
-package's lengths, lists of fields and refusals must be those of the checker. Prints each difference and ends with 1 where there is one.
+package's lengths, limits, lists of fields and refusals must be those of the checker. Prints each difference and ends with 1 where there
+is one.
 """
 
 import ctypes
@@ -154,7 +155,7 @@ PYTHON_NUMBERS = {ctypes.c_uint8: "u8", ctypes.c_uint16: "u16", ctypes.c_uint32:
 
 
 def python_type(kind):
-    return kind.__name__ if issubclass(kind, ctypes.Structure) else PYTHON_NUMBERS[kind]
+    return kind.__name__ if issubclass(kind, ctypes.Structure) else PYTHON_NUMBERS.get(kind, f"unknown {kind.__name__}")
 
 
 def python_parameters(parameters):
@@ -177,11 +178,11 @@ def read_library(structs, operations):
 
 
 # ---------------------------------------------------------------------------
-# Lengths, lists of fields and refusals
+# Lengths and limits, lists of fields and refusals
 # ---------------------------------------------------------------------------
 
 class Tables(NamedTuple):
-    lengths: dict
+    numbers: dict      # lengths and limits, by name
     line_1: list
     frame: list
     refusals: list
@@ -194,28 +195,31 @@ def list_in(text, start, entry):
 
 
 def tables_of_checker():
-    lengths = {"MAP_ROWS": g.ROWS, "MAP_COLUMNS": g.COLUMNS, "MAP_CELLS": g.PLACES, "TEXT_LENGTH": g.TEXT_LENGTH,
-               "FRAME_LENGTH": g.FRAME_LENGTH, "REFUSAL_LENGTH": g.REFUSAL_LENGTH}
-    return Tables(lengths, list(g.LINE_1), [("refusal", g.REFUSAL_DIGITS), *g.FRAME], list(g.REFUSALS))
+    numbers = {"MAP_ROWS": g.ROWS, "MAP_COLUMNS": g.COLUMNS, "MAP_CELLS": g.PLACES, "TEXT_LENGTH": g.TEXT_LENGTH,
+               "FRAME_LENGTH": g.FRAME_LENGTH, "REFUSAL_LENGTH": g.REFUSAL_LENGTH, "HEIGHT_MOST": g.HEIGHT_RANGE[1],
+               "BUDGET_MOST": g.BUDGET_RANGE[1]}
+    return Tables(numbers, list(g.LINE_1), [("refusal", g.REFUSAL_DIGITS), *g.FRAME], list(g.REFUSALS))
 
 
 def tables_of_header(text):
-    lengths = {name: int(number) for name, number in re.findall(r"#define NB_(\w+) (\d+)u\b", text)}
+    numbers = {name: int(number) for name, number in re.findall(r"#define NB_(\w+) (\d+)u\b", text)}
     entry = r"FIELD\((\w+), (\d+)\)"
     refusals = [(int(number), message) for number, message in re.findall(r'R\((\d+), NB_\w+, "([^"]*)"\)', text)]
-    return Tables(lengths, list_in(text, "#define NB_LINE_1(FIELD)", entry), list_in(text, "#define NB_FRAME(FIELD)", entry), refusals)
+    return Tables(numbers, list_in(text, "#define NB_LINE_1(FIELD)", entry), list_in(text, "#define NB_FRAME(FIELD)", entry), refusals)
 
 
-def tables_of_rust(layout, refusal):
-    lengths = {name: int(number.replace("_", "")) for name, number in re.findall(r"pub const (\w+): usize = ([\d_]+);", layout)}
+def tables_of_rust(layout, refusal, calls):
+    numbers = {name: int(number.replace("_", ""))
+               for name, number in re.findall(r"pub const (\w+): (?:usize|u32) = ([\d_]+);", layout + calls)}
     entry = r'\("(\w+)", (\d+)\)'
     refusals = [(int(number), message) for number, message in re.findall(r'^\s+(\d+) \w+ "([^"]*)"$', refusal, re.M)]
-    return Tables(lengths, list_in(layout, "pub const LINE_1:", entry), list_in(layout, "pub const FRAME:", entry), refusals)
+    return Tables(numbers, list_in(layout, "pub const LINE_1:", entry), list_in(layout, "pub const FRAME:", entry), refusals)
 
 
 # Numbers that a refusal's message must say.
 SAID = {1: g.DIMENSION_RANGE, 2: g.MASS_RANGE, 3: g.SPEED_RANGE, 4: g.AREA_LIMITS[-1:], 5: (*g.LENT_LENGTHS,), 6: g.CELL_AREA_RANGE,
-        7: (g.LARGEST_COUNT,), 13: (g.TEXT_LENGTH,), 15: (g.FRAME_LENGTH,), 16: g.FRONTAL_RANGE}
+        7: (g.LARGEST_COUNT,), 13: (g.TEXT_LENGTH,), 15: (g.FRAME_LENGTH,), 16: g.FRONTAL_RANGE, 17: (*g.HEIGHT_RANGE, *g.BUDGET_RANGE),
+        18: g.BUDGET_RANGE[1:]}
 
 
 # ---------------------------------------------------------------------------
@@ -268,8 +272,8 @@ def list_differences(checker, rattle):
 
 
 def table_differences(checker, what, found):
-    lines = [f"{what}: {name} is {found.lengths[name]}, the checker's is {length}" for name, length in checker.lengths.items()
-             if name in found.lengths and found.lengths[name] != length]
+    lines = [f"{what}: {name} is {found.numbers[name]}, the checker's is {number}" for name, number in checker.numbers.items()
+             if name in found.numbers and found.numbers[name] != number]
     if found.line_1 != checker.line_1:
         lines.append(f"{what}: line 1 is {found.line_1}, the checker's is {checker.line_1}")
     if found.frame != checker.frame:
@@ -312,7 +316,7 @@ class Sources(NamedTuple):
     changes: str = ""
 
 
-LAYOUT, REFUSAL = "console/rust/src/layout.rs", "console/rust/src/refusal.rs"
+LAYOUT, REFUSAL, CALLS = (f"console/rust/src/{name}.rs" for name in ("layout", "refusal", "lib"))
 
 
 def sources():
@@ -334,12 +338,12 @@ def declared_differences(s):
 
 
 def tabled_differences(s):
-    """Of the lengths, the lists of fields, the refusals, the sizes and the version."""
+    """Of the lengths and limits, the lists of fields, the refusals, the sizes and the version."""
     checker, header = tables_of_checker(), tables_of_header(s.header)
-    rust = tables_of_rust(s.rust[LAYOUT], s.rust[REFUSAL])
+    rust = tables_of_rust(s.rust[LAYOUT], s.rust[REFUSAL], s.rust[CALLS])
     lines = list_differences(checker, read_rattle(s.rattle))
     lines += table_differences(checker, "the header", header) + table_differences(checker, "the Rust package", rust)
-    lines += [f"the header has no {name}" for name in checker.lengths if name not in header.lengths]
+    lines += [f"the header has no {name}" for name in checker.numbers if name not in header.numbers]
     lines += [f"refusal {one[0]} is {one[1]!r} in the header and {other[1]!r} in the Rust package"
               for one, other in zip(header.refusals, rust.refusals) if one != other]
     return lines + size_differences(s.header, s.structs) + version_differences(s.header, s.package, s.changes)
@@ -353,7 +357,7 @@ def main():
     if not lines:
         rattle = read_rattle(s.rattle)
         print(f"{len(rattle.structs)} structs and {len(rattle.functions)} functions are declared alike by the library, the header, "
-              f"the Rust package and the checker; so are {len(g.REFUSALS)} refusals, the lengths, line 1 and the frame")
+              f"the Rust package and the checker; so are {len(g.REFUSALS)} refusals, the lengths and limits, line 1 and the frame")
     return 1 if lines else 0
 
 

@@ -34,6 +34,14 @@ FUNCTIONS = sorted([*d.read_header(HEADER).functions, "nb_version", "nb_refusal_
 # Of the high impact angle model: accepted, with a flag, with a factor on both sides of a cut, the ends of the ranges, and refused.
 AIRCRAFT = ((1_100, 15_000, 2_500), (1_202, 16_782, 0), (1_006, 11_014, 1), (1_000, 50, 0), (40_000, 25_000_000, 40_000),
             (49, 49, 40_001), (50, 49, 40_001), (50, 50, 40_001), (999, 50, 0), (40_001, 50, 0), (2 ** 32 - 1,) * 3)
+# Of the descent, with the largest budget where none stands: both sides of 60 degrees, of a budget and of a speed that a step makes
+# negative, at rest, the ends of the ranges, and every refusal.
+DESCENTS = ((1_100, 15_000, 2_500, 5_740), (1_100, 15_000, 2_500, 5_739), (1_100, 15_000, 2_500, 5_740, 365),
+            (1_100, 15_000, 2_500, 5_740, 364), (1_000, 50, 10_204, 1, 5), (1_000, 50, 10_204, 1, 1), (1_000, 50, 10_205, 1, 1),
+            (1_000, 50, 0, 1), (3_000, 50, 0, 28_250), (3_000, 50, 0, 50_000), (40_000, 25_000_000, 40_000, 50_000, 20_000),
+            (49, 49, 40_001, 0, 0), (50, 49, 40_001, 0, 0), (50, 50, 40_001, 0, 0), (999, 50, 0, 0, 0), (40_001, 50, 0, 1),
+            (1_000, 50, 10_205, 0), (1_000, 50, 10_205, 50_001), (1_000, 50, 10_205, 1, 0), (1_000, 50, 10_205, 1, 20_001),
+            (2 ** 32 - 1,) * 5)
 NOT_NUMBERS = ("", "x", "-1", "+1", " 1", "1 ", "1.0", "1e3", "0x10", str(2 ** 32), str(2 ** 64 + 1))
 
 
@@ -53,7 +61,20 @@ def high_angle_words(*aircraft):
             f"safety factor: {a.factor.low / 1000:.3f} to {a.factor.high / 1000:.3f}\n"
             f"critical area: {a.area.low} to {a.area.high} square centimetres\n"
             f"column: {a.column}{flagged}\n"
-            "only for a rotorcraft or multirotor that strikes the ground at more than 60 degrees, which isn't judged here\n")
+            "only for a rotorcraft or multirotor that strikes the ground at more than 60 degrees, which the descent judges\n")
+
+
+def descent_words(dimension, mass, speed, height, budget=g.BUDGET_RANGE[1]):
+    a = g.descent(dimension, mass, speed, height, budget)
+    if a.refusal != 0:
+        return f"refusal {a.refusal}: {messages()[a.refusal]}\n"
+    angle, model = (("above", "a rotorcraft or multirotor may use the high impact angle model") if a.above_60 else
+                    ("not above", "the high impact angle model may not be used: the area is the sheet's"))
+    return (f"strikes the ground after {a.steps / 100:.2f} seconds, {a.steps} steps\n"
+            f"distance fallen: {a.end.fallen:.3f} metres\n"
+            f"speed at the ground: {a.end.horizontal:.3f} m/s horizontally, {a.end.downward:.3f} m/s downward\n"
+            f"impact angle: {angle} 60 degrees\n"
+            f"from this operating height {model}\n")
 
 
 def done(*command, **settings):
@@ -120,17 +141,32 @@ class InstalledTest(unittest.TestCase):
         self.assertEqual(self.run_program(program, "/nowhere/at/all").returncode, 2)
         self.fails_on_a_full_disk(program, EXAMPLES[0])
 
-    def says_the_high_angles(self, program):
-        for aircraft in AIRCRAFT:
-            ran, words = self.run_program(program, *aircraft), high_angle_words(*aircraft)
-            self.assertEqual((ran.stdout, ran.returncode), (words, 1 if words.startswith("refusal ") else 0))
-        self.assertIn(", the exact one may be", high_angle_words(*AIRCRAFT[1]))
-        right = [str(number) for number in AIRCRAFT[0]]
-        wrong = [[*right[:place], word, *right[place + 1:]] for place in range(3) for word in NOT_NUMBERS]
-        for arguments in ([], right[:2], [*right, "0"], *wrong):
+    def says_the_words(self, program, asked, words_of):
+        """For each list of numbers that it is asked, and it ends with the status of the words."""
+        for numbers in asked:
+            ran, words = self.run_program(program, *numbers), words_of(*numbers)
+            self.assertEqual((ran.stdout, ran.returncode), (words, 1 if words.startswith("refusal ") else 0), numbers)
+
+    def takes_no_other_arguments(self, program, least, numbers):
+        """It wants at least so many numbers, and no more than these."""
+        right = [str(number) for number in numbers]
+        wrong = [[*right[:place], word, *right[place + 1:]] for place in range(len(right)) for word in NOT_NUMBERS]
+        for arguments in ([], right[:least - 1], [*right, "0"], *wrong):
             ran = self.run_program(program, *arguments)
             self.assertEqual((ran.returncode, ran.stdout, ran.stderr.count("\n")), (2, "", 1), arguments)
         self.fails_on_a_full_disk(program, *right)
+
+    def says_the_high_angles(self, program):
+        self.says_the_words(program, AIRCRAFT, high_angle_words)
+        self.assertIn(", the exact one may be", high_angle_words(*AIRCRAFT[1]))
+        self.takes_no_other_arguments(program, 3, AIRCRAFT[0])
+
+    def says_the_descents(self, program):
+        self.says_the_words(program, DESCENTS, descent_words)
+        said = "".join(descent_words(*numbers) for numbers in DESCENTS)
+        for words in (": above 60 degrees", "not above 60 degrees", *(f"refusal {number}:" for number in (1, 2, 3, 16, 17, 18, 19))):
+            self.assertIn(words, said)
+        self.takes_no_other_arguments(program, 4, DESCENTS[2])
 
     def fails_on_a_full_disk(self, program, *arguments):
         with open("/dev/full", "w") as full:
@@ -168,19 +204,25 @@ class InstalledTest(unittest.TestCase):
         for static in (False, True):
             self.says_the_examples(self.built("example", ROOT / "console/examples/case.c", CC, "-std=c99", static=static))
             self.says_the_high_angles(self.built("high_angle", ROOT / "console/examples/high_angle.c", CC, "-std=c99", static=static))
+            self.says_the_descents(self.built("descent", ROOT / "console/examples/descent.c", CC, "-std=c99", static=static))
         self.says_the_examples(self.crate("example_rust", (ROOT / "console/rust/examples/case.rs").read_text()))
         self.says_the_high_angles(self.crate("high_angle_rust", (ROOT / "console/rust/examples/high_angle.rs").read_text()))
+        self.says_the_descents(self.crate("descent_rust", (ROOT / "console/rust/examples/descent.rs").read_text()))
 
-    def test_the_high_angle_of_readme(self):
-        """The program of its command, which make makes, prints what README shows below it."""
+    def test_the_examples_of_readme(self):
+        """The program of each command, which make makes, prints what README shows below it."""
         text = (ROOT / "README.md").read_text()
-        program, aircraft, shown = re.search(r"^    (\S+) ([\d ]+)\n\n((?:    .*\n)+)", text.split("    make target/console/high", 1)[1], re.M).groups()
-        self.assertEqual(make(program).returncode, 0)
-        ran = self.run_program(ROOT / program, *aircraft.split())
-        self.assertEqual((ran.returncode, ran.stdout), (0, shown.replace("    ", "")))
+        for name in ("high_angle", "descent"):
+            program, numbers, shown = re.search(
+                rf"^    make \S+{name}-in-words\n    (\S+{name}-in-words) ([\d ]+)\n\n((?:    .*\n)+)", text, re.M).groups()
+            self.assertEqual(make(program).returncode, 0)
+            ran = self.run_program(ROOT / program, *numbers.split())
+            self.assertEqual((ran.returncode, ran.stdout), (0, shown.replace("    ", "")))
 
-    def test_version_messages_and_nothing_lent(self):
-        wanted = [f"{NUMBER} {NUMBER}", *messages(), "5", "5", "13", "15"]
+    def test_version_messages_a_descent_and_nothing_lent(self):
+        refusal, above_60, steps, end = g.descent(1_100, 15_000, 2_500, 5_740, g.BUDGET_RANGE[1])
+        descent = " ".join(format(number, ".17g") for number in (refusal, above_60, steps, *end))
+        wanted = [f"{NUMBER} {NUMBER}", *messages(), descent, "5", "5", "13", "15"]
         for compiler in ([CC, "-std=c99"], [CXX, "-x", "c++", "-std=c++98", "-Wno-long-long"], [CXX, "-x", "c++", "-std=c++17"]):
             program = self.built("consumer", ROOT / "console/tests/consumer.c", *compiler)
             self.assertEqual(self.run_program(program).stdout.splitlines(), wanted)

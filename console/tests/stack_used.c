@@ -56,6 +56,7 @@ static void make_text(void) {
 int main(void) {
     nb_sheet_answer_t sheet;
     nb_high_angle_t high_angle;
+    nb_descent_t descent;
     nb_footprint_t footprint;
     nb_assessment_t assessment;
     nb_reading_t reading;
@@ -70,6 +71,9 @@ int main(void) {
     if (sheet.refusal != NB_ACCEPTED || footprint.row != 5 || reading.head.mass != 10000) return 1;
     USED(nb_high_angle, WORD(&high_angle), 1100, 15000, 2500);
     if (high_angle.refusal != NB_ACCEPTED || high_angle.area.high != 57102) return 1;
+    /* nearly all steps of the largest budget */
+    USED(nb_descent, WORD(&descent), 3000, 50, 500, 28250, NB_BUDGET_MOST);
+    if (descent.refusal != NB_ACCEPTED || descent.steps < NB_BUDGET_MOST - 100) return 1;
     USED(nb_intrinsic_class, 3, 4, 0);
     USED(nb_final_class, 3, 6, 0x2212);
     return 0;

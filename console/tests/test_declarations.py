@@ -23,6 +23,7 @@ pub struct Pair {
 pub struct LongAnswer {
     pub refusal: u8,
     pub class: i8,
+    pub share: f64,
     pub pair: Pair,
 }
 
@@ -59,6 +60,7 @@ typedef struct {
 typedef struct {
     uint8_t refusal;
     int8_t class_number;
+    double share;
     nb_pair_t pair;
 } nb_long_answer_t;
 
@@ -82,6 +84,7 @@ pub struct Pair {
 pub struct LongAnswer {
     pub refusal: u8,
     pub class: i8,
+    pub share: f64,
     pub pair: Pair,
 }
 
@@ -97,7 +100,7 @@ extern "C" {
     pub fn nb_write(fields: Pair, frame: *mut u8, frame_len: usize) -> u8;
 }
 '''
-U8, U32, U64, I8 = ctypes.c_uint8, ctypes.c_uint32, ctypes.c_uint64, ctypes.c_int8
+U8, U32, U64, I8, F64 = ctypes.c_uint8, ctypes.c_uint32, ctypes.c_uint64, ctypes.c_int8, ctypes.c_double
 
 
 def struct(name, *fields):
@@ -105,7 +108,7 @@ def struct(name, *fields):
 
 
 PAIR = struct("Pair", ("low", U64), ("high", U64))
-ANSWER = struct("LongAnswer", ("refusal", U8), ("class", I8), ("pair", PAIR))
+ANSWER = struct("LongAnswer", ("refusal", U8), ("class", I8), ("share", F64), ("pair", PAIR))
 WALK = Operation("nb_walk", (Parameter("size", U32), Parameter("counts", U32, "read"), Parameter("marks", U64, "written"),
                              Parameter("class", U8)), ANSWER, None)
 WRITE = Operation("nb_write", (Parameter("fields", PAIR), Parameter("frame", U8, "written")), U8, None)
@@ -130,7 +133,7 @@ class StructsAndFunctionsTest(unittest.TestCase):
 
     def test_all_is_read(self):
         wanted = d.read_rattle(SMALL.rattle)
-        self.assertEqual(wanted.structs["LongAnswer"], [("refusal", "u8"), ("class", "i8"), ("pair", "Pair")])
+        self.assertEqual(wanted.structs["LongAnswer"], [("refusal", "u8"), ("class", "i8"), ("share", "f64"), ("pair", "Pair")])
         self.assertEqual(wanted.functions["nb_walk"], [
             ("size", "u32"), ("counts", "*const u32"), ("counts_len", "usize"), ("marks", "*mut u64"), ("marks_len", "usize"),
             ("class", "u8"), ("answer", "LongAnswer")])
@@ -154,6 +157,8 @@ class StructsAndFunctionsTest(unittest.TestCase):
     def test_the_header(self):
         self.in_header("    uint64_t low;\n    uint64_t high; /* more */\n", "    uint64_t high;\n    uint64_t low;\n", "has Pair with")
         self.in_header("int8_t class_number;\n", "uint8_t class_number;\n", "has LongAnswer with")
+        self.in_header("double share;\n", "float share;\n", "has LongAnswer with share: unknown float")
+        self.in_header("double share;\n", "uint64_t share;\n", "has LongAnswer with share: u64")
         self.in_header("    nb_pair_t pair;\n", "", "has LongAnswer with")
         self.in_header("    nb_pair_t pair;\n", "    nb_pair_t pair;\n    uint8_t more;\n", "has LongAnswer with")
         self.in_header("} nb_pair_t;", "} nb_two_t;", "has no Pair", "has Two")
@@ -172,6 +177,7 @@ class StructsAndFunctionsTest(unittest.TestCase):
     def test_the_rust_package(self):
         self.in_rust("    pub low: u64,\n    /// more\n    pub high: u64,\n", "    pub high: u64,\n    pub low: u64,\n", "has Pair with")
         self.in_rust("    pub class: i8,\n", "    pub class: u8,\n", "has LongAnswer with")
+        self.in_rust("    pub share: f64,\n", "    pub share: f32,\n", "has LongAnswer with share: f32")
         self.in_rust("#[repr(C)]\n#[derive(Clone, Copy)]\n", "#[derive(Clone, Copy)]\n", "the Rust package (structs) has no Pair")
         self.in_rust("counts: *const u32", "counts: *mut u32", "has nb_walk with")
         self.in_rust("        marks_len: usize,\n", "", "has nb_walk with")
@@ -183,6 +189,9 @@ class StructsAndFunctionsTest(unittest.TestCase):
         self.differs(SMALL._replace(structs=SMALL.structs | {"Pair": swapped}), "checker/library.py (structs) has Pair with")
         narrower = struct("Pair", ("low", U64), ("high", U32))
         self.differs(SMALL._replace(structs=SMALL.structs | {"Pair": narrower}), "has Pair with")
+        for kind, found in ((ctypes.c_float, "unknown c_float"), (U64, "u64")):
+            other = struct("LongAnswer", ("refusal", U8), ("class", I8), ("share", kind), ("pair", PAIR))
+            self.differs(SMALL._replace(structs=SMALL.structs | {"LongAnswer": other}), f"has LongAnswer with share: {found}")
         self.differs(SMALL._replace(structs={"Pair": PAIR}), "has no LongAnswer")
         self.differs(SMALL._replace(operations={"walk": WALK}), "checker/library.py (functions) has no nb_write")
         for changed in (WALK._replace(parameters=WALK.parameters[::-1]), WALK._replace(parameters=WALK.parameters[1:]),
@@ -201,6 +210,7 @@ class StructsAndFunctionsTest(unittest.TestCase):
         self.in_rattle("#[repr(C)]\npub struct Pair", "#[repr(C, packed)]\npub struct Pair", "isn't a struct of named fields")
         self.in_rattle('#[no_mangle]\npub extern "C" fn nb_walk', '#[no_mangle]\npub fn nb_walk', "an exported function that can't be read")
         self.in_rattle('#[no_mangle]\npub extern "C" fn nb_walk', 'pub extern "C" fn nb_walk', "an exported function that can't be read")
+        self.in_rattle("    pub share: f64,\n", "    pub share: f32,\n", "LongAnswer: share is f32, which is neither")
         self.in_rattle("frame: &mut [u8],", "frame: &mut [Private],", "neither a number nor a #[repr(C)] struct")
         for new, words in (("#[repr(C)]\npub struct More {\n    pub a: u8,\n}\n", "(structs) has no More"),
                            ('#[no_mangle]\npub extern "C" fn nb_more(a: u8) -> u8 {\n    a\n}\n', "(functions) has no nb_more"),
@@ -217,7 +227,7 @@ class TablesTest(unittest.TestCase):
     def test_as_they_are(self):
         self.assertEqual(d.tabled_differences(REAL), [])
         header = d.tables_of_header(REAL.header)
-        self.assertEqual(set(d.tables_of_checker().lengths) - set(header.lengths), set())
+        self.assertEqual(set(d.tables_of_checker().numbers) - set(header.numbers), set())
         self.assertEqual(len(header.refusals), len(g.REFUSALS))
 
     def differs(self, planted, *words):
@@ -231,10 +241,12 @@ class TablesTest(unittest.TestCase):
     def in_rust(self, old, new, *words):
         self.differs(REAL._replace(rust=with_file(REAL.rust, old, new)), *words)
 
-    def test_lengths(self):
-        for name, length in d.tables_of_checker().lengths.items():
-            self.in_header(f"#define NB_{name} {length}u\n", f"#define NB_{name} {length + 1}u\n", f"the header: {name} is {length + 1}")
-            self.in_header(f"#define NB_{name} {length}u\n", "", f"the header has no {name}")
+    def test_lengths_and_limits(self):
+        for name, number in d.tables_of_checker().numbers.items():
+            self.in_header(f"#define NB_{name} {number}u\n", f"#define NB_{name} {number + 1}u\n", f"the header: {name} is {number + 1}")
+            self.in_header(f"#define NB_{name} {number}u\n", "", f"the header has no {name}")
+        for name, (_, most) in (("HEIGHT_MOST", g.HEIGHT_RANGE), ("BUDGET_MOST", g.BUDGET_RANGE)):
+            self.in_rust(f"{name}: u32 = {most:_};", f"{name}: u32 = {most + 1:_};", f"the Rust package: {name} is {most + 1}")
         self.in_rust(f"MAP_ROWS: usize = {g.ROWS};", f"MAP_ROWS: usize = {g.ROWS + 1};", "the Rust package: MAP_ROWS is")
 
     def test_lists(self):

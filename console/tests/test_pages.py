@@ -1,5 +1,5 @@
 """The pages' numbers: README's are the checker's (the fields of a case, the mitigation digits, the class table, the size columns, the
-refusals, the frame that it explains, the high impact angle model), TRUST's are the header's and the repository's."""
+refusals, the frame that it explains, the high impact angle model, the descent), TRUST's are the header's and the repository's."""
 
 import re
 import sys
@@ -15,8 +15,8 @@ import example_cases          # noqa: E402
 import ground_risk as g       # noqa: E402
 import stack                  # noqa: E402
 
-README, TRUST, HEADER, ANSWERS = ((ROOT / page).read_text() for page in (
-    "README.md", "docs/TRUST.md", "console/include/nuggetbay.h", "console/rust/src/answers.rs"))
+README, TRUST, HEADER, ANSWERS, CALLS = ((ROOT / page).read_text() for page in (
+    "README.md", "docs/TRUST.md", "console/include/nuggetbay.h", "console/rust/src/answers.rs", "console/rust/src/lib.rs"))
 RANGES = {"dimension": g.DIMENSION_RANGE, "mass": g.MASS_RANGE, "speed": g.SPEED_RANGE, "cell_area": g.CELL_AREA_RANGE}
 CREDITS = {"M1(A)": g.M1A_CREDITS, "M1(B)": g.M1B_CREDITS, "M1(C)": g.M1C_CREDITS, "M2": g.M2_CREDITS}
 
@@ -121,8 +121,7 @@ class ReadmeTest(unittest.TestCase):
             self.assertIn(f"one part in 500 of the high area plus 2 {unit}", source)
 
     def test_who_may_use_the_high_angle(self):
-        package = (ROOT / "console/rust/src/lib.rs").read_text()
-        for page in (README, HEADER, package):
+        for page in (README, HEADER, CALLS):
             for word in ("rotorcraft", "multirotor", "60 degrees"):
                 self.assertIn(word, joined(page))
 
@@ -135,6 +134,42 @@ class ReadmeTest(unittest.TestCase):
         *slow, low, high, sheet_low, sheet_high = numbers_in(re.search(r"isn't always the smaller one: (.*) on the sheet\.", README)[1])
         self.assertEqual((g.high_angle(*slow).area, g.sheet(*slow).area), ((low, high), (sheet_low, sheet_high)))
         self.assertGreater(low, sheet_high)
+
+    def test_the_descents_that_are_shown(self):
+        """The words below the command are the program's, which console/tests/installed.py holds to README."""
+        *aircraft, height = numbers_in(re.search(r"descent-in-words (\d.*)", README)[1])
+        self.assertEqual(aircraft, numbers_in(re.search(r"high_angle-in-words (\d.*)", README)[1]))
+        budget = g.BUDGET_RANGE[1]
+        shown, (lower, steps) = g.descent(*aircraft, height, budget), numbers_in(
+            re.search(r"From ([\d,]+ cm the fall ends after [\d,]+ steps) and isn't above", README)[1])
+        self.assertEqual((shown.refusal, shown.above_60), (0, 1))
+        self.assertIn(f"strikes the ground after {shown.steps / 100:.2f} seconds, {shown.steps} steps\n", README)
+        self.assertIn(f"its lowest operating height {height / 100:.2f} m, may use that model.", README)
+        below = g.descent(*aircraft, lower, budget)
+        self.assertEqual((below.refusal, below.above_60, below.steps, lower), (0, 0, steps, height - 1))
+
+    def test_the_fall(self):
+        constants = (float(g.AIR_DENSITY), float(g.DRAG_COEFFICIENT), float(g.GRAVITY))
+        for page, air, gravity in ((README, "kg/m³", "m/s²"), (HEADER, "kg per cubic metre", "m/s^2"), (CALLS, "kg per cubic metre", "m/s²")):
+            for said in (f"steps of {g.STEP} s", f"in air of {constants[0]} {air} with a drag coefficient of {constants[1]}",
+                         f"{constants[2]} {gravity}"):
+                self.assertIn(said, joined(page))
+        for page in (README, HEADER, ANSWERS):
+            self.assertIn("downward speed squared exceeds 3 times horizontal speed squared", joined(page))
+
+    def test_the_limits_of_the_descent(self):
+        heights, budgets = ("{:,} to {:,}".format(*limits) for limits in (g.HEIGHT_RANGE, g.BUDGET_RANGE))
+        self.assertIn(f"17 where the height is outside {heights} cm or the step budget outside {budgets}.", README)
+        self.assertIn(f"a fifth number from {budgets}; {g.BUDGET_RANGE[1]:,}, a fall of {g.BUDGET_RANGE[1] * g.STEP:.0f} s,", README)
+        for page in (HEADER, CALLS):
+            self.assertIn(f"a fall of {g.BUDGET_RANGE[1] * g.STEP:.0f} s", joined(page))
+        self.assertIn(f"in cm ({g.HEIGHT_RANGE[0]} to NB_HEIGHT_MOST)", joined(HEADER))
+        self.assertIn(f"may be made ({g.BUDGET_RANGE[0]} to NB_BUDGET_MOST)", joined(HEADER))
+
+    def test_the_lightest_of_the_descent(self):
+        mass, dimension, speed = numbers_in(re.search(r"(\d+ g at [\d,]+ mm are refused from [\d,]+ cm/s) on", README)[1])
+        refused = {v for v in range(g.SPEED_RANGE[1] + 1) if g.descent(dimension, mass, v, *g.HEIGHT_RANGE[:1], 1).refusal == 19}
+        self.assertEqual(refused, set(range(speed, g.SPEED_RANGE[1] + 1)))
 
     def test_the_shared_library(self):
         self.assertIn(f"`libnuggetbay.so.{declarations.version_of(HEADER).split('.')[0]}`", README)
@@ -163,7 +198,7 @@ class TrustTest(unittest.TestCase):
     def test_the_stack(self):
         said = stack.said_in(HEADER)
         listed = re.search(r"at most (.*?) \|", TRUST)[1]
-        found = {name: int(number) for number, names in re.findall(r"(\d+)(?: bytes for)? ((?:`nb_\w+`(?: and )?)+)", listed)
+        found = {name: int(number) for number, names in re.findall(r"(\d+)(?: bytes for)? ((?:`nb_\w+`(?:, | and )?)+)", listed)
                  for name in re.findall(r"nb_\w+", names)}
         self.assertEqual(found, said)
 

@@ -46,6 +46,13 @@ class NeedTest(unittest.TestCase):
         self.assertEqual(self.need("je     4 <x>\npush   rbx\npop    rbx\nret\nsub    rsp,0x40\nadd    rsp,0x40\nret"), 8 + 64)
         self.assertEqual(self.need("jmp    0 <x>"), 8)
 
+    def test_a_loop_is_followed_once(self):
+        turns = "sub    rsp,0x18\nmovsd  QWORD PTR [rsp+0x8],xmm0\ndivsd  xmm0,QWORD PTR [rsp+0x8]\nsub    eax,0x1\njne    1 <x>\nadd    rsp,0x18\nret"
+        self.assertEqual(self.need(turns), 8 + 24)
+        self.assertEqual(self.need("movaps XMMWORD PTR [rsp-0x28],xmm0\nsub    eax,0x1\njne    0 <x>\nret"), 8 + 40)
+        with self.assertRaises(stack.Unreadable):
+            self.need("push   rbx\nsub    eax,0x1\njne    0 <x>\npop    rbx\nret")
+
     def test_what_cannot_be_read(self):
         for text in ("and    rsp,0xffffffffffffffe0\nret", "jmp    rax", "call   rax\nret", "sub    rsp,rax\nret", "push   rbx\nret",
                      "je     2 <x>\npush   rbx\npop    rbx\nret", "leave\nret", "xchg   rax,rsp\nret", "mov    rsp,rbp\nret", "lea    rsp,[rbp-0x8]\nret", "call   0 <x> @.text.nb_one\nret",

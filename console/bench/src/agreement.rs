@@ -1,7 +1,7 @@
 //! All contestants answer alike, and leave alike what is lent, on good and on damaged inputs.
 
-use crate::ffi::{Footprint, HighAngle, Reading, Sheet, SheetAnswer};
-use crate::inputs::{self, Map, Random};
+use crate::ffi::{Descent, Footprint, HighAngle, Reading, Sheet, SheetAnswer};
+use crate::inputs::{self, DescentInput, Map, Random};
 use crate::{library, obvious, tuned};
 use nuggetbay::layout::{FRAME_LENGTH, LINE_1_LENGTH, MAP_CELLS, MAP_COLUMNS, MAP_ROWS};
 use nuggetbay::Aircraft;
@@ -75,6 +75,60 @@ pub fn high_angles(random: &mut Random, tally: &mut Tally) {
         let answer = library::high_angle(a.dimension, a.mass, a.speed);
         assert_eq!(answer, high_angle_answer(obvious::high_angle(a.dimension, a.mass, a.speed)));
         assert_eq!(answer, tuned::high_angle(a.dimension, a.mass, a.speed));
+        tally.inputs += 1;
+        tally.refused += usize::from(answer.refusal != 0);
+    }
+}
+
+/// To the bit: `==` doesn't see a zero's sign.
+fn descent_bits(d: Descent) -> (u8, u8, u32, [u64; 3]) {
+    (d.refusal, d.above_60, d.steps, [d.end.horizontal, d.end.downward, d.end.fallen].map(f64::to_bits))
+}
+
+fn descent_answer(result: Result<Descent, u8>) -> Descent {
+    result.unwrap_or_else(|refusal| Descent { refusal, ..Default::default() })
+}
+
+fn damaged_descent(random: &mut Random, kind: usize, mut d: DescentInput) -> DescentInput {
+    let anything = (random.next() >> 32) as u32 >> random.below(32);
+    match kind {
+        0 => d.aircraft.dimension = anything,
+        1 => d.aircraft.mass = anything,
+        2 => d.aircraft.speed = anything,
+        3 => d.height = anything,
+        4 => d.budget = anything,
+        5 => d.height = random.one_of(&[0, 1, 50_000, 50_001]),
+        6 => d.budget = random.one_of(&[0, 1, 20_000, 20_001]),
+        // the budget is just enough, one more, or one less
+        7..=9 => {
+            let Aircraft { dimension, mass, speed } = d.aircraft;
+            let steps = library::descent(dimension, mass, speed, d.height, d.budget).steps;
+            d.budget = (steps + random.below(3) as u32).saturating_sub(1);
+        }
+        // hovering
+        10 => d.aircraft.speed = 0,
+        // so fast for its mass that a speed becomes negative, or nearly
+        11 => d.aircraft.mass = random.between(50, 2_000),
+        _ => {}
+    }
+    d
+}
+
+pub fn descents(random: &mut Random, tally: &mut Tally) {
+    for i in 0..10_000 {
+        let d = match i % 8 {
+            0..=4 => inputs::operating_descent(random),
+            5 | 6 => inputs::any_descent(random),
+            _ if i % 16 == 7 => inputs::endless_descent(random),
+            _ => inputs::any_descent(random),
+        };
+        let DescentInput { aircraft, height, budget } = damaged_descent(random, i / 8 % 20, d);
+        let Aircraft { dimension, mass, speed } = aircraft;
+        let answer = library::descent(dimension, mass, speed, height, budget);
+        let obvious = descent_answer(obvious::descent(dimension, mass, speed, height, budget));
+        assert_eq!(descent_bits(answer), descent_bits(obvious), "{aircraft:?} {height} {budget}");
+        let tuned = tuned::descent(dimension, mass, speed, height, budget);
+        assert_eq!(descent_bits(answer), descent_bits(tuned), "{aircraft:?} {height} {budget}");
         tally.inputs += 1;
         tally.refused += usize::from(answer.refusal != 0);
     }

@@ -56,6 +56,40 @@ pub fn steep_aircraft(random: &mut Random) -> Aircraft {
     Aircraft { dimension, mass: mass_of_energy(f64::from(joules), dimension), speed: random.between(0, 40_000) }
 }
 
+/// What a descent is asked for: the height in cm, and the step budget.
+#[derive(Clone, Copy, Debug, PartialEq, Eq)]
+pub struct DescentInput {
+    pub aircraft: Aircraft,
+    pub height: u32,
+    pub budget: u32,
+}
+
+/// A multirotor of 1 to 8 m and 2 to 100 kg at 5 to 30 m/s, from 30 to 120 m.
+pub fn operating_descent(random: &mut Random) -> DescentInput {
+    let dimension = random.between(1_000, 8_000);
+    let aircraft = Aircraft { dimension, mass: random.between(2_000, 100_000), speed: random.between(500, 3_000) };
+    DescentInput { aircraft, height: random.between(3_000, 12_000), budget: LARGEST_BUDGET }
+}
+
+/// So light and wide that 500 m take longer than the largest budget, and so slow at first that no speed becomes negative.
+pub fn endless_descent(random: &mut Random) -> DescentInput {
+    let dimension = random.between(3_000, 4_000);
+    let aircraft = Aircraft { dimension, mass: random.between(50, 100), speed: random.between(500, 1_000) };
+    DescentInput { aircraft, height: 50_000, budget: LARGEST_BUDGET }
+}
+
+/// Of all dimensions that have a frontal area, and of all masses, speeds, heights and budgets.
+pub fn any_descent(random: &mut Random) -> DescentInput {
+    let dimension = random.between(1_000, 40_000);
+    let mass = random.one_of(&[(50, 1_000), (1_001, 25_000), (25_001, 1_000_000), (1_000_001, 25_000_000)]);
+    let speed = random.one_of(&[(0, 0), (1, 500), (501, 5_000), (5_001, 40_000)]);
+    let height = random.one_of(&[(1, 100), (101, 3_000), (3_001, 12_000), (12_001, 50_000)]);
+    let budget = random.one_of(&[(1, 20), (21, 500), (501, LARGEST_BUDGET)]);
+    let aircraft =
+        Aircraft { dimension, mass: random.between(mass.0, mass.1), speed: random.between(speed.0, speed.1) };
+    DescentInput { aircraft, height: random.between(height.0, height.1), budget: random.between(budget.0, budget.1) }
+}
+
 /// Of column 1, so that every row of the class table has a class.
 pub fn small_aircraft(random: &mut Random) -> Aircraft {
     Aircraft {
@@ -118,3 +152,6 @@ pub fn texts(random: &mut Random, map: fn(&mut Random) -> Map) -> Vec<Vec<u8>> {
 pub const TEXTS: usize = 16;
 pub const MAPS: usize = 64;
 pub const AIRCRAFT: usize = 1024;
+pub const OPERATING_DESCENTS: usize = 256;
+pub const ENDLESS_DESCENTS: usize = 8;
+pub const LARGEST_BUDGET: u32 = 20_000;

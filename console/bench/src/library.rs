@@ -1,6 +1,6 @@
 //! The library, called as its header declares it.
 
-use crate::ffi::{self, Footprint, HighAngle, Reading, SheetAnswer};
+use crate::ffi::{self, Descent, Footprint, HighAngle, Reading, SheetAnswer};
 
 pub fn sheet(dimension: u32, mass: u32, speed: u32) -> SheetAnswer {
     // SAFETY: numbers only.
@@ -10,6 +10,11 @@ pub fn sheet(dimension: u32, mass: u32, speed: u32) -> SheetAnswer {
 pub fn high_angle(dimension: u32, mass: u32, speed: u32) -> HighAngle {
     // SAFETY: numbers only.
     unsafe { ffi::nb_high_angle(dimension, mass, speed) }
+}
+
+pub fn descent(dimension: u32, mass: u32, speed: u32, height: u32, budget: u32) -> Descent {
+    // SAFETY: numbers only.
+    unsafe { ffi::nb_descent(dimension, mass, speed, height, budget) }
 }
 
 pub fn footprint(counts: &[u32], marks: &[u64], cell_area: u32) -> Footprint {

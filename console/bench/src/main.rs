@@ -13,7 +13,7 @@ mod obvious;
 mod tuned;
 
 use barrier::black_box;
-use inputs::{Map, Random};
+use inputs::{DescentInput, Map, Random};
 use nuggetbay::layout::{FRAME_LENGTH, MAP_CELLS, MAP_ROWS};
 use nuggetbay::Aircraft;
 use std::cell::RefCell;
@@ -25,7 +25,7 @@ const NAMES: [&str; 3] = ["library", "tuned", "obvious"];
 /// How far two runs of the same code differ here.
 const NOISE: f64 = 0.02;
 
-/// One line of the table: each contestant's walk over all inputs, and the ratios that are wanted of the others' times.
+/// One line of the table: each contestant's walk over all inputs, or over all steps of falls, and the ratios that are wanted of the others' times.
 struct Contest {
     name: &'static str,
     inputs: usize,
@@ -90,6 +90,33 @@ fn high_angle_contest(aircraft: Vec<Aircraft>) -> Contest {
         aircraft_run!(aircraft, obvious::high_angle),
     ];
     Contest { name: "high angle", inputs: aircraft.len(), runs, tuned_at_least: 1.0, obvious_at_least: 0.0 }
+}
+
+/// Of falls that end alike; the time is that of a step.
+fn descent_contest(name: &'static str, descents: Vec<DescentInput>, refusal: u8) -> Contest {
+    let mut steps = 0;
+    for d in &descents {
+        let Aircraft { dimension, mass, speed } = d.aircraft;
+        let answer = library::descent(dimension, mass, speed, d.height, d.budget);
+        assert_eq!(answer.refusal, refusal);
+        // where the whole budget is spent, the answer has no number of steps
+        steps += if refusal == 18 { d.budget } else { answer.steps };
+    }
+    let descents = Rc::new(descents);
+    macro_rules! run {
+        ($descent:path) => {{
+            let descents = Rc::clone(&descents);
+            Box::new(move |_| {
+                for d in descents.iter() {
+                    let DescentInput { aircraft, height, budget } = black_box(*d);
+                    let Aircraft { dimension, mass, speed } = aircraft;
+                    black_box(&$descent(dimension, mass, speed, height, budget));
+                }
+            })
+        }};
+    }
+    let runs: [Box<dyn FnMut(usize)>; 3] = [run!(library::descent), run!(tuned::descent), run!(obvious::descent)];
+    Contest { name, inputs: steps as usize, runs, tuned_at_least: 1.0, obvious_at_least: 0.0 }
 }
 
 fn footprint_contest(name: &'static str, maps: Vec<Map>) -> Contest {
@@ -198,9 +225,13 @@ fn contests() -> Vec<Contest> {
             steep.push(a);
         }
     }
+    let operating = (0..inputs::OPERATING_DESCENTS).map(|_| inputs::operating_descent(random)).collect();
+    let endless = (0..inputs::ENDLESS_DESCENTS).map(|_| inputs::endless_descent(random)).collect();
     vec![
         sheet_contest(aircraft),
         high_angle_contest(steep),
+        descent_contest("descent from 30 to 120 m, a step", operating, 0),
+        descent_contest("descent, refusal 18, 20,000 steps, a step", endless, 18),
         footprint_contest("footprint, full maps", full_maps),
         footprint_contest("footprint, sparse maps", sparse_maps),
         reading_contest("reading, full texts", &full),
@@ -252,6 +283,7 @@ fn compare() {
     agreement::footprints(&mut random, &mut tally);
     agreement::cases(&mut random, &mut tally);
     agreement::high_angles(&mut random, &mut tally);
+    agreement::descents(&mut random, &mut tally);
     println!(
         "All three agree on {} inputs, {} of them refused, and on what is left in the lent buffers.\n",
         tally.inputs, tally.refused
@@ -260,10 +292,12 @@ fn compare() {
 
 fn print_table() {
     println!(
-        "{} texts, {} maps, {} aircraft for the sheet and {2} for the high angle, all different, shared by the contestants. Lent buffers are lent again without clearing.\n",
+        "{} texts, {} maps, {} aircraft for the sheet and {2} for the high angle, {} falls from 30 to 120 m and {} of 20,000 steps, all different, shared by the contestants. Lent buffers are lent again without clearing.\n",
         inputs::TEXTS,
         inputs::MAPS,
-        inputs::AIRCRAFT
+        inputs::AIRCRAFT,
+        inputs::OPERATING_DESCENTS,
+        inputs::ENDLESS_DESCENTS
     );
     let counts = instructions::all();
     println!("| best of many rounds, an input | library | tuned | obvious | tuned / library | obvious / library | instructions: library | tuned | obvious |");

@@ -1,7 +1,7 @@
 //! The operations as one would write them first: match, early exits, Option and Result, u128 where a product might be long, a root
 //! by powf that is then made right.
 
-use crate::ffi::{Bracket, CaseHead, Footprint, FrameFields, HighAngle, Sheet};
+use crate::ffi::{Bracket, CaseHead, Descent, Fall, Footprint, FrameFields, HighAngle, Sheet};
 use nuggetbay::layout::{line_1_place, COUNT_DIGITS, LINE_1_LENGTH, MARK_DIGITS};
 use nuggetbay::layout::{FRAME_LENGTH, MAP_CELLS, MAP_COLUMNS, MAP_ROWS, TEXT_LENGTH};
 use std::io::Write;
@@ -130,6 +130,56 @@ pub fn high_angle(dimension: u32, mass: u32, speed: u32) -> Result<HighAngle, u8
     let column = LIMITS.iter().position(|&limit| limit >= area.high).ok_or(4)?;
     let flag = column > 0 && area.low <= LIMITS[column - 1];
     Ok(HighAngle { refusal: 0, column: column as u8 + 1, flag: u8::from(flag), frontal_area, joules, factor, area })
+}
+
+/// The root of the sum of the squares, by six rounds.
+fn speed_of(fall: Fall) -> f64 {
+    if fall.horizontal == 0.0 && fall.downward == 0.0 {
+        return 0.0;
+    }
+    let sum = fall.horizontal * fall.horizontal + fall.downward * fall.downward;
+    (0..6).fold(fall.horizontal + fall.downward, |guess, _| (guess + sum / guess) * 0.5)
+}
+
+/// The state 0.01 s later.
+fn step(fall: Fall, area: f64, mass: f64) -> Fall {
+    let drag = 0.5 * 1.225 * area * 0.8 * speed_of(fall);
+    let slowing = |speed: f64| drag * speed / mass;
+    let horizontal = fall.horizontal - slowing(fall.horizontal) * 0.01;
+    let downward = fall.downward + (9.81 - slowing(fall.downward)) * 0.01;
+    Fall { horizontal, downward, fallen: fall.fallen + 0.5 * (fall.downward + downward) * 0.01 }
+}
+
+#[inline(never)]
+pub fn descent(dimension: u32, mass: u32, speed: u32, height: u32, budget: u32) -> Result<Descent, u8> {
+    if !(50..=100_000).contains(&dimension) {
+        return Err(1);
+    }
+    if !(50..=25_000_000).contains(&mass) {
+        return Err(2);
+    }
+    if speed > 40_000 {
+        return Err(3);
+    }
+    let frontal_area = frontal_area(dimension).ok_or(16)?;
+    if !(1..=50_000).contains(&height) || !(1..=20_000).contains(&budget) {
+        return Err(17);
+    }
+    let area = frontal_area as f64 / 1_000_000.0;
+    let mass = f64::from(mass) / 1_000.0;
+    let height = f64::from(height) / 100.0;
+    let mut fall = Fall { horizontal: f64::from(speed) / 100.0, downward: 0.0, fallen: 0.0 };
+    for steps in 1..=budget {
+        fall = step(fall, area, mass);
+        if fall.horizontal < 0.0 || fall.downward < 0.0 {
+            return Err(19);
+        }
+        if fall.fallen >= height {
+            let above_60 = fall.downward * fall.downward > 3.0 * (fall.horizontal * fall.horizontal);
+            return Ok(Descent { refusal: 0, above_60: u8::from(above_60), steps, end: fall });
+        }
+    }
+    Err(18)
 }
 
 fn table_row(people: u32, cell_area: u32) -> u8 {

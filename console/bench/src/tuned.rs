@@ -1,7 +1,8 @@
 //! The operations tuned by hand for the same target (x86-64 with SSE2, safe Rust, no intrinsics): no early exit where bytes or
-//! cells are walked, lanes of digits, cells chosen by masks, one division where two quotients differ by one, roots from parabolas.
+//! cells are walked, lanes of digits, cells chosen by masks, one division where two quotients differ by one, roots from parabolas,
+//! steps of a fall that don't wait for the one before.
 
-use crate::ffi::{Bracket, CaseHead, Footprint, FrameFields, HighAngle, Reading, Sheet, SheetAnswer};
+use crate::ffi::{Bracket, CaseHead, Descent, Fall, Footprint, FrameFields, HighAngle, Reading, Sheet, SheetAnswer};
 use nuggetbay::layout::{frame_place, line_1_place, COUNTS, COUNT_LINE, LINE_1_LENGTH, MARKS, MARK_LINE};
 use nuggetbay::layout::{FRAME_LENGTH, MAP_CELLS, MAP_COLUMNS, MAP_ROWS, REFUSAL_LENGTH, TEXT_LENGTH};
 use std::ops::Range;
@@ -62,8 +63,13 @@ pub fn sheet(dimension: u32, mass: u32, speed: u32) -> SheetAnswer {
     SheetAnswer { refusal: 0, sheet: Sheet { glide, run, saving, slide, total, area, column, flag, size_column } }
 }
 
+/// Whether an aircraft has a frontal area and is in range.
+fn is_multirotor(dimension: u32, mass: u32, speed: u32) -> bool {
+    (dimension.wrapping_sub(1_000) <= 39_000) & (mass.wrapping_sub(50) <= 24_999_950) & (speed <= 40_000)
+}
+
 /// The refusal of an aircraft that isn't accepted.
-fn high_angle_refusal(dimension: u32, mass: u32, speed: u32) -> u8 {
+fn multirotor_refusal(dimension: u32, mass: u32, speed: u32) -> u8 {
     if dimension.wrapping_sub(50) > 99_950 {
         1
     } else if mass.wrapping_sub(50) > 24_999_950 {
@@ -167,10 +173,8 @@ fn roots(joules: Bracket) -> Bracket {
 
 #[inline(never)]
 pub fn high_angle(dimension: u32, mass: u32, speed: u32) -> HighAngle {
-    let accepted =
-        (dimension.wrapping_sub(1_000) <= 39_000) & (mass.wrapping_sub(50) <= 24_999_950) & (speed <= 40_000);
-    if !accepted {
-        return HighAngle { refusal: high_angle_refusal(dimension, mass, speed), ..Default::default() };
+    if !is_multirotor(dimension, mass, speed) {
+        return HighAngle { refusal: multirotor_refusal(dimension, mass, speed), ..Default::default() };
     }
     let frontal_area = frontal_area(u64::from(dimension));
     let energy = u64::from(mass) * u64::from(mass) * 981;
@@ -206,6 +210,151 @@ pub fn high_angle(dimension: u32, mass: u32, speed: u32) -> HighAngle {
     };
     let flag = u8::from(area.low < flagged_below);
     HighAngle { refusal: 0, column, flag, frontal_area, joules, factor, area }
+}
+
+/// The factors of a fall: drag per speed squared, in kg/m, and mass in kg.
+#[derive(Clone, Copy)]
+struct Body {
+    drag: f64,
+    mass: f64,
+}
+
+/// The speed of a state, by rounds that are left at the first one that changes nothing: no later one does then.
+fn speed_of(fall: Fall) -> f64 {
+    if (fall.horizontal == 0.0) & (fall.downward == 0.0) {
+        return 0.0;
+    }
+    let sum = fall.horizontal * fall.horizontal + fall.downward * fall.downward;
+    let mut guess = fall.horizontal + fall.downward;
+    for _ in 0..6 {
+        let next = (guess + sum / guess) * 0.5;
+        if next == guess {
+            break;
+        }
+        guess = next;
+    }
+    guess
+}
+
+fn next_horizontal(body: Body, horizontal: f64, speed: f64) -> f64 {
+    horizontal - body.drag * speed * horizontal / body.mass * 0.01
+}
+
+fn next_downward(body: Body, downward: f64, speed: f64) -> f64 {
+    downward + (9.81 - body.drag * speed * downward / body.mass) * 0.01
+}
+
+/// The state after this one that has these speeds.
+fn next(fall: Fall, horizontal: f64, downward: f64) -> Fall {
+    Fall { horizontal, downward, fallen: fall.fallen + 0.5 * (fall.downward + downward) * 0.01 }
+}
+
+fn is_negative(fall: Fall) -> bool {
+    (fall.horizontal < 0.0) | (fall.downward < 0.0)
+}
+
+/// The speeds of two states at once, in lanes. A round keeps twice its guess: to halve it is exact, and the next division needn't
+/// wait for that. If the second round changes nothing in either, no later one does.
+fn speeds_of(one: Fall, other: Fall) -> [f64; 2] {
+    let horizontal = [one.horizontal, other.horizontal];
+    let downward = [one.downward, other.downward];
+    let sum = lanes(|i| horizontal[i] * horizontal[i] + downward[i] * downward[i]);
+    let twice_sum = lanes(|i| sum[i] + sum[i]);
+    let guess = lanes(|i| horizontal[i] + downward[i]);
+    let first = lanes(|i| guess[i] + sum[i] / guess[i]);
+    let round = |twice: [f64; 2]| lanes(|i| 0.5 * twice[i] + twice_sum[i] / twice[i]);
+    let second = round(first);
+    if (second[0] == first[0]) & (second[1] == first[1]) {
+        return lanes(|i| 0.5 * first[i]);
+    }
+    let sixth = round(round(round(round(second))));
+    lanes(|i| 0.5 * sixth[i])
+}
+
+fn lanes(lane: impl Fn(usize) -> f64) -> [f64; 2] {
+    [lane(0), lane(1)]
+}
+
+/// The last four speeds, the newest first.
+type Speeds = [f64; 4];
+
+/// A guess at the speed of a state: what the last four lead to, and one step of Newton's from there.
+fn guessed_speed(before: Speeds, fall: Fall) -> f64 {
+    let far = 4.0 * (before[0] + before[2]) - 6.0 * before[1] - before[3];
+    let sum = fall.horizontal * fall.horizontal + fall.downward * fall.downward;
+    far + (sum - far * far) * (0.5 / far)
+}
+
+/// A guess at the next state; `slowing` is 0.01 of drag over mass. At its terminal speed the aircraft keeps it, to the last bit: a
+/// formula that is wrong there by a bit would be wrong at each step.
+fn guessed_next(fall: Fall, speed: f64, slowing: f64, terminal: bool) -> Fall {
+    let horizontal = fall.horizontal - speed * (slowing * fall.horizontal);
+    let downward = if terminal { fall.downward } else { fall.downward + (0.0981 - speed * (slowing * fall.downward)) };
+    next(fall, horizontal, downward)
+}
+
+fn refused_descent(refusal: u8) -> Descent {
+    Descent { refusal, ..Default::default() }
+}
+
+/// The fall is one chain of divisions, each waiting for the one before. So the next two states are guessed, and begun from while their
+/// rounds still go on: nearly every guess is right to the last bit. It is held to the exact state by a branch, which is foreseen.
+/// Zeros need no other comparison: no state has a zero with a sign.
+fn fall_from(body: Body, height: f64, budget: u32, speed: f64) -> Descent {
+    let slowing = body.drag / body.mass * 0.01;
+    let mut fall = Fall { horizontal: speed, downward: 0.0, fallen: 0.0 };
+    let mut before = [0.0; 4];
+    let mut steps = 0;
+    while steps < budget {
+        let speed = speed_of(fall);
+        let downward = next_downward(body, fall.downward, speed);
+        let terminal = downward == fall.downward;
+        fall = next(fall, next_horizontal(body, fall.horizontal, speed), downward);
+        steps += 1;
+        if is_negative(fall) {
+            return refused_descent(19);
+        }
+        if fall.fallen >= height {
+            let above_60 = fall.downward * fall.downward > 3.0 * (fall.horizontal * fall.horizontal);
+            return Descent { refusal: 0, above_60: u8::from(above_60), steps, end: fall };
+        }
+        before = [speed, before[0], before[1], before[2]];
+        while steps + 1 < budget {
+            let speed = guessed_speed(before, fall);
+            let middle = guessed_next(fall, speed, slowing, terminal);
+            let middle_speed = guessed_speed([speed, before[0], before[1], before[2]], middle);
+            let last = guessed_next(middle, middle_speed, slowing, terminal);
+            // the fall ends by the loop around this one
+            if is_negative(middle) | is_negative(last) | (middle.fallen >= height) | (last.fallen >= height) {
+                break;
+            }
+            let speeds = speeds_of(fall, middle);
+            let wrong = (next_horizontal(body, fall.horizontal, speeds[0]) != middle.horizontal)
+                | (next_horizontal(body, middle.horizontal, speeds[1]) != last.horizontal)
+                | (next_downward(body, fall.downward, speeds[0]) != middle.downward)
+                | (next_downward(body, middle.downward, speeds[1]) != last.downward);
+            if wrong {
+                break;
+            }
+            fall = last;
+            steps += 2;
+            before = [middle_speed, speed, before[0], before[1]];
+        }
+    }
+    refused_descent(18)
+}
+
+#[inline(never)]
+pub fn descent(dimension: u32, mass: u32, speed: u32, height: u32, budget: u32) -> Descent {
+    if !is_multirotor(dimension, mass, speed) {
+        return refused_descent(multirotor_refusal(dimension, mass, speed));
+    }
+    if (height.wrapping_sub(1) > 49_999) | (budget.wrapping_sub(1) > 19_999) {
+        return refused_descent(17);
+    }
+    let area = frontal_area(u64::from(dimension)) as f64 / 1_000_000.0;
+    let body = Body { drag: 0.5 * 1.225 * area * 0.8, mass: f64::from(mass) / 1_000.0 };
+    fall_from(body, f64::from(height) / 100.0, budget, f64::from(speed) / 100.0)
 }
 
 fn table_row(people: u32, cell_area: u32) -> u8 {

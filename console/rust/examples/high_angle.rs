@@ -33,7 +33,7 @@ fn say_answer(answer: &HighAngle, out: &mut impl Write) -> io::Result<()> {
     writeln!(out, "column: {column}{flagged}")?;
     writeln!(
         out,
-        "only for a rotorcraft or multirotor that strikes the ground at more than 60 degrees, which isn't judged here"
+        "only for a rotorcraft or multirotor that strikes the ground at more than 60 degrees, which the descent judges"
     )
 }
 

@@ -3,11 +3,12 @@
 
 use crate::{ffi, Refusal};
 
-/// An aircraft. [`sheet`](crate::sheet), [`high_angle`](crate::high_angle) and [`assess`](crate::assess) refuse what is out of range.
+/// An aircraft. [`sheet`](crate::sheet), [`high_angle`](crate::high_angle), [`descent`](crate::descent) and
+/// [`assess`](crate::assess) refuse what is out of range.
 #[derive(Clone, Copy, Debug, PartialEq, Eq, Hash)]
 pub struct Aircraft {
-    /// The dimension in mm: 50 to 100,000, else [`Refusal::Dimension`]; for [`high_angle`](crate::high_angle) 1,000 to 40,000, else
-    /// [`Refusal::FrontalDimension`].
+    /// The dimension in mm: 50 to 100,000, else [`Refusal::Dimension`]; for [`high_angle`](crate::high_angle) and
+    /// [`descent`](crate::descent) 1,000 to 40,000, else [`Refusal::FrontalDimension`].
     pub dimension: u32,
     /// The mass in g: 50 to 25,000,000, else [`Refusal::Mass`].
     pub mass: u32,
@@ -69,6 +70,28 @@ pub struct HighAngle {
     /// The critical area in square centimetres. The exact area, with the exact energy from this frontal area, lies in it; it is no
     /// wider than one part in 500 of the high area plus 2 square centimetres.
     pub area: Bracket,
+}
+
+/// A state of a fall.
+#[derive(Clone, Copy, Debug, PartialEq)]
+pub struct Fall {
+    /// The horizontal speed in m/s.
+    pub horizontal: f64,
+    /// The downward speed in m/s.
+    pub downward: f64,
+    /// The distance fallen in m.
+    pub fallen: f64,
+}
+
+/// The fall of an aircraft from its operating height to the ground.
+#[derive(Clone, Copy, Debug, PartialEq)]
+pub struct Descent {
+    /// Whether the end state's angle is above 60 degrees: downward speed squared exceeds 3 times horizontal speed squared.
+    pub above_60: bool,
+    /// The number of states made after the first, 1 to the budget: the fall takes that many times 0.01 s.
+    pub steps: u32,
+    /// The first state whose distance fallen is at least the height.
+    pub end: Fall,
 }
 
 /// What lies under the marked cells of a map.
@@ -219,6 +242,20 @@ impl From<ffi::HighAngle> for HighAngle {
             factor: factor.into(),
             area: area.into(),
         }
+    }
+}
+
+impl From<ffi::Fall> for Fall {
+    fn from(fall: ffi::Fall) -> Fall {
+        let ffi::Fall { horizontal, downward, fallen } = fall;
+        Fall { horizontal, downward, fallen }
+    }
+}
+
+impl From<ffi::Descent> for Descent {
+    fn from(answer: ffi::Descent) -> Descent {
+        let ffi::Descent { refusal: _, above_60, steps, end } = answer;
+        Descent { above_60: above_60 != 0, steps, end: end.into() }
     }
 }
 

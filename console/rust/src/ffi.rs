@@ -42,6 +42,23 @@ pub struct HighAngle {
 }
 
 #[repr(C)]
+#[derive(Clone, Copy, Debug, Default, PartialEq)]
+pub struct Fall {
+    pub horizontal: f64,
+    pub downward: f64,
+    pub fallen: f64,
+}
+
+#[repr(C)]
+#[derive(Clone, Copy, Debug, Default, PartialEq)]
+pub struct Descent {
+    pub refusal: u8,
+    pub above_60: u8,
+    pub steps: u32,
+    pub end: Fall,
+}
+
+#[repr(C)]
 #[derive(Clone, Copy, Debug, Default, PartialEq, Eq)]
 pub struct Footprint {
     pub refusal: u8,
@@ -112,6 +129,7 @@ pub struct FrameFields {
 extern "C" {
     pub fn nb_sheet(dimension: u32, mass: u32, speed: u32) -> SheetAnswer;
     pub fn nb_high_angle(dimension: u32, mass: u32, speed: u32) -> HighAngle;
+    pub fn nb_descent(dimension: u32, mass: u32, speed: u32, height: u32, budget: u32) -> Descent;
     pub fn nb_footprint(
         counts: *const u32,
         counts_len: usize,

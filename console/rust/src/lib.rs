@@ -13,9 +13,9 @@
 //! }
 //! ```
 //!
-//! Units: dimension in mm, mass in g, speed in cm/s, cell area in square metres. A map is [`MAP_CELLS`] head counts, 64 rows of
-//! 64 cells, row 0 north, column 0 west. A footprint is one number for each map row, [`MAP_ROWS`] of them; the highest bit is the
-//! westernmost cell, and a set bit marks a cell as flown over.
+//! Units: dimension in mm, mass in g, speed in cm/s, height in cm, cell area in square metres. A map is [`MAP_CELLS`] head counts,
+//! 64 rows of 64 cells, row 0 north, column 0 west. A footprint is one number for each map row, [`MAP_ROWS`] of them; the highest
+//! bit is the westernmost cell, and a set bit marks a cell as flown over.
 //!
 //! For every function here:
 //!
@@ -27,8 +27,8 @@
 //! [`assess`] answers numbers for a map in memory. [`case`] reads a case text and prints a frame; [`read_case`] and [`write_frame`]
 //! are its two ends. [`sheet`], [`footprint`], [`intrinsic_class`] and [`final_class`] are the steps of an assessment.
 //! [`high_angle`] is the critical area by the EASA guideline's other model, for rotorcraft and multirotors that strike at
-//! more than 60 degrees; no assessment takes it by itself. `include/nuggetbay.h` says the same for C, function by
-//! function.
+//! more than 60 degrees, which [`descent`] judges; no assessment takes either by itself. `include/nuggetbay.h` says the same for C,
+//! function by function.
 
 #![deny(missing_docs)]
 #![warn(clippy::missing_errors_doc, clippy::undocumented_unsafe_blocks)]
@@ -38,7 +38,9 @@ mod ffi;
 pub mod layout;
 mod refusal;
 
-pub use answers::{Aircraft, Assessment, Bracket, CaseHead, Footprint, FrameFields, HighAngle, Question, Sheet};
+pub use answers::{
+    Aircraft, Assessment, Bracket, CaseHead, Descent, Fall, Footprint, FrameFields, HighAngle, Question, Sheet,
+};
 pub use layout::{FRAME_LENGTH, MAP_CELLS, MAP_COLUMNS, MAP_ROWS, REFUSAL_LENGTH, TEXT_LENGTH};
 pub use refusal::{NoSuchRefusal, Refusal};
 
@@ -82,9 +84,9 @@ pub fn sheet(aircraft: Aircraft) -> Result<Sheet, Refusal> {
 /// D = 0.3 m + half the dimension, 3.14 × D², times a safety factor that comes from the energy of a fall at terminal speed.
 ///
 /// The guideline has this model for rotorcraft and multirotors only, not for hybrids with wings, and only where the aircraft strikes
-/// the ground at an angle above 60 degrees, falling from the lowest operating height at the greatest speed. No function here judges
-/// either; where one of them doesn't hold, the area is that of [`sheet`]. The speed is judged for its range only: no figure depends
-/// on it.
+/// the ground at an angle above 60 degrees, falling from the lowest operating height at the greatest speed. [`descent`] judges the
+/// angle; no function judges what kind of aircraft it is. Where one of them doesn't hold, the area is that of [`sheet`]. The speed is
+/// judged for its range only: no figure depends on it.
 ///
 /// # Errors
 ///
@@ -110,6 +112,53 @@ pub fn high_angle(aircraft: Aircraft) -> Result<HighAngle, Refusal> {
     let Aircraft { dimension, mass, speed } = aircraft;
     // SAFETY: numbers only.
     let answer = unsafe { ffi::nb_high_angle(dimension, mass, speed) };
+    accepted(answer.refusal)?;
+    Ok(answer.into())
+}
+
+/// The greatest height of a [`descent`] in cm.
+pub const HEIGHT_MOST: u32 = 50_000;
+/// The largest step budget of a [`descent`].
+pub const BUDGET_MOST: u32 = 20_000;
+
+/// The fall of an aircraft from its operating height to the ground, annex 1 of the EASA guideline, in steps of 0.01 s: gravity of
+/// 9.81 m/s², and drag in air of 1.225 kg per cubic metre with a drag coefficient of 0.8 on the frontal area of [`high_angle`]. The
+/// first state has the aircraft's speed, all of it horizontal.
+///
+/// The verdict, [`above_60`](Descent::above_60), is the guideline's condition for the high impact angle model where the height is the
+/// lowest operating height and the speed the greatest one. That height is then a limitation in the operator's manual.
+///
+/// The height is in cm (1 to [`HEIGHT_MOST`]). The step budget is the most steps that may be made (1 to [`BUDGET_MOST`]). It bounds
+/// the time of the call and changes no answer that is given: who has none in mind passes [`BUDGET_MOST`], which is a fall of 200 s.
+///
+/// Each operation is one of IEEE binary64, rounded to nearest, in the order that document 02 says and none fused with another, so
+/// that an answer is the same bits on every machine that computes so.
+///
+/// # Errors
+///
+/// [`Refusal::Dimension`], [`Refusal::Mass`], [`Refusal::Speed`], [`Refusal::FrontalDimension`] as [`high_angle`];
+/// [`Refusal::HeightOrBudget`] where the height or the budget is out of range; then at each new state [`Refusal::NegativeSpeed`],
+/// where a speed is negative, before it is held to the height; [`Refusal::BudgetSpent`] where the state after the whole budget is
+/// still short of the height.
+///
+/// # Examples
+///
+/// ```
+/// use nuggetbay::{descent, Aircraft, Refusal, BUDGET_MOST};
+///
+/// let aircraft = Aircraft { dimension: 1_100, mass: 15_000, speed: 2_500 };
+/// let answer = descent(aircraft, 5_740, BUDGET_MOST)?; // from 57.40 m
+/// assert_eq!((answer.above_60, answer.steps), (true, 365));
+/// assert!(answer.end.fallen >= 57.40);
+///
+/// assert!(!descent(aircraft, 5_739, BUDGET_MOST)?.above_60);
+/// assert_eq!(descent(aircraft, 5_740, 364), Err(Refusal::BudgetSpent));
+/// # Ok::<(), Refusal>(())
+/// ```
+pub fn descent(aircraft: Aircraft, height: u32, budget: u32) -> Result<Descent, Refusal> {
+    let Aircraft { dimension, mass, speed } = aircraft;
+    // SAFETY: numbers only.
+    let answer = unsafe { ffi::nb_descent(dimension, mass, speed, height, budget) };
     accepted(answer.refusal)?;
     Ok(answer.into())
 }

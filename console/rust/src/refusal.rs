@@ -78,6 +78,9 @@ refusals! {
     14 TextByte "wrong byte in the text: lower-case hexadecimal digits, and byte 10 at the end of each line, are allowed"
     15 FrameLength "frame buffer too short: at least 43 bytes are needed"
     16 FrontalDimension "no frontal area for this dimension: 1,000 to 40,000 mm is allowed"
+    17 HeightOrBudget "height or step budget out of range: 1 to 50,000 cm and 1 to 20,000 steps are allowed"
+    18 BudgetSpent "step budget spent before the ground is reached: more steps are needed, at most 20,000 are allowed"
+    19 NegativeSpeed "a step makes a speed negative: too light for its frontal area and speed, more mass or less speed is needed for steps of 0.01 s"
 }
 
 impl Refusal {

@@ -29,6 +29,12 @@ fn high_angle(arguments: &[&str]) -> Command {
     command
 }
 
+fn descent(arguments: &[&str]) -> Command {
+    let mut command = example_called("descent");
+    command.args(arguments);
+    command
+}
+
 fn stored(name: &str) -> PathBuf {
     [env!("CARGO_MANIFEST_DIR"), "../../examples", name].iter().collect()
 }
@@ -81,6 +87,42 @@ fn no_aircraft_ends_with_2() {
     }
 }
 
+#[test]
+fn descents_end_with_0_or_1() {
+    let _alone = alone();
+    for accepted in [&["1100", "15000", "2500", "5740"][..], &["1100", "15000", "2500", "5740", "365"]] {
+        assert_eq!(ended(&mut descent(accepted)), (Some(0), String::new()));
+    }
+    for refused in [
+        &["999", "15000", "2500", "5740"][..],
+        &["1100", "15000", "2500", "50001"],
+        &["1100", "15000", "2500", "5740", "364"],
+        &["1100", "15000", "2500", "5740", "4294967295"],
+        &["1000", "50", "10205", "1"],
+    ] {
+        assert_eq!(ended(&mut descent(refused)), (Some(1), String::new()));
+    }
+}
+
+#[test]
+fn no_descent_ends_with_2() {
+    let _alone = alone();
+    let right = ["1100", "15000", "2500", "5740", "365"];
+    let usage =
+        "usage: descent DIMENSION MASS SPEED HEIGHT [BUDGET], in mm, g, cm/s, cm and steps of 0.01 s\n".to_string();
+    for arguments in [&[][..], &right[..3], &["1100", "15000", "2500", "5740", "365", "365"]] {
+        assert_eq!(ended(&mut descent(arguments)), (Some(2), usage.clone()));
+    }
+    for wrong in ["", "x", "-1", "+1", " 1", "1.0", "1e3", "0x10", "1_000", "4294967296", "18446744073709551617"] {
+        for place in 0..right.len() {
+            let mut arguments = right;
+            arguments[place] = wrong;
+            let said = format!("not a number of 32 bits: '{wrong}'\n");
+            assert_eq!(ended(&mut descent(&arguments)), (Some(2), said));
+        }
+    }
+}
+
 /// A pipe that nobody reads any more.
 fn closed_pipe() -> Stdio {
     let mut reader = Command::new("true").stdin(Stdio::piped()).spawn().expect("there is a program true");
@@ -104,11 +146,13 @@ fn words_that_cannot_be_written_end_with_2() {
             assert_eq!(ended(example().arg(stored(case)).stdout(output()).stderr(output())), (Some(2), String::new()));
         }
         for dimension in ["1100", "999"] {
-            let aircraft = [dimension, "15000", "2500"];
-            let (status, said) = ended(high_angle(&aircraft).stdout(output()));
-            assert_eq!((status, said.lines().count()), (Some(2), 1), "{said}");
-            assert!(said.starts_with("can't write: "), "{said}");
-            assert_eq!(ended(high_angle(&aircraft).stdout(output()).stderr(output())), (Some(2), String::new()));
+            let fall = [dimension, "15000", "2500", "5740"];
+            for (program, arguments) in [(high_angle as fn(&[&str]) -> Command, &fall[..3]), (descent, &fall)] {
+                let (status, said) = ended(program(arguments).stdout(output()));
+                assert_eq!((status, said.lines().count()), (Some(2), 1), "{said}");
+                assert!(said.starts_with("can't write: "), "{said}");
+                assert_eq!(ended(program(arguments).stdout(output()).stderr(output())), (Some(2), String::new()));
+            }
         }
     }
 }

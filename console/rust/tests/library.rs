@@ -1,5 +1,5 @@
-//! The safe calls: the worked points P1 to P16 of document 01, the high impact angle model, every refusal, and what is left in lent
-//! buffers.
+//! The safe calls: the worked points P1 to P16 of document 01, the high impact angle model, the descent, every refusal, and what is
+//! left in lent buffers.
 
 use nuggetbay::layout::{
     frame_place, line_1_place, COUNT_DIGITS, COUNT_LINE, FRAME, LINE_1, LINE_1_LENGTH, MARK_DIGITS, MARK_LINE,
@@ -145,6 +145,81 @@ fn high_angle_refusals_in_their_order() {
         assert_eq!(refused(dimension, 25_000_000, 40_000), None);
         assert_eq!(refused(dimension, 50, 0), None);
     }
+}
+
+const MULTIROTOR: Aircraft = Aircraft { dimension: 1_100, mass: 15_000, speed: 2_500 };
+
+/// Equal bits, where == would take a zero for its negative.
+fn bits(fall: Fall) -> [u64; 3] {
+    [fall.horizontal, fall.downward, fall.fallen].map(f64::to_bits)
+}
+
+#[test]
+fn the_descent_of_a_multirotor() {
+    for (height, above_60, steps, horizontal, downward, fallen) in [
+        (5_739, false, 364, 16.89205619293888, 29.2054207058643, 57.394134348678406),
+        (5_740, true, 365, 16.869715501946732, 29.264894900229216, 57.686485926708876),
+        (12_000, true, 549, 12.898774905571575, 38.15703508038924, 120.32397548436764),
+    ] {
+        let end = Fall { horizontal, downward, fallen };
+        let answer = descent(MULTIROTOR, height, BUDGET_MOST);
+        assert_eq!(answer, Ok(Descent { above_60, steps, end }));
+        assert_eq!(answer.map(|answer| bits(answer.end)), Ok(bits(end)));
+    }
+}
+
+#[test]
+fn a_descent_at_rest_is_plumb() {
+    let answer = descent(Aircraft { speed: 0, ..MULTIROTOR }, 1, BUDGET_MOST);
+    let end = Fall { horizontal: 0.0, downward: 0.4904886828464401, fallen: 0.012262367965681066 };
+    assert_eq!(answer, Ok(Descent { above_60: true, steps: 5, end }));
+    assert_eq!(answer.map(|answer| bits(answer.end)), Ok(bits(end)));
+}
+
+#[test]
+fn the_budget_changes_no_answer_that_is_given() {
+    let answer = descent(MULTIROTOR, 5_740, 365);
+    assert_eq!(answer.map(|answer| answer.steps), Ok(365));
+    for budget in [366, 1_000, BUDGET_MOST] {
+        assert_eq!(descent(MULTIROTOR, 5_740, budget), answer);
+    }
+    for budget in [1, 2, 364] {
+        assert_eq!(descent(MULTIROTOR, 5_740, budget), Err(Refusal::BudgetSpent));
+    }
+    // nearly all of the largest budget, and more than it
+    let light = Aircraft { dimension: 3_000, mass: 50, speed: 0 };
+    assert_eq!(descent(light, 28_250, BUDGET_MOST).map(|answer| answer.steps), Ok(19_976));
+    assert_eq!(descent(light, HEIGHT_MOST, BUDGET_MOST), Err(Refusal::BudgetSpent));
+}
+
+#[test]
+fn a_negative_speed_comes_before_a_spent_budget() {
+    // at 102.041 m/s the first step takes the whole speed away
+    let light = |speed| Aircraft { dimension: 1_000, mass: 50, speed };
+    assert_eq!(descent(light(10_204), 1, 1), Err(Refusal::BudgetSpent));
+    assert_eq!(descent(light(10_205), 1, 1), Err(Refusal::NegativeSpeed));
+    assert_eq!(descent(light(10_204), 1, BUDGET_MOST).map(|answer| answer.steps), Ok(5));
+    assert_eq!(descent(light(10_205), 1, BUDGET_MOST), Err(Refusal::NegativeSpeed));
+}
+
+#[test]
+fn descent_refusals_in_their_order() {
+    let refused =
+        |dimension, mass, speed, height| descent(Aircraft { dimension, mass, speed }, height, BUDGET_MOST).err();
+    assert_eq!(refused(49, 49, 40_001, 0), Some(Refusal::Dimension));
+    assert_eq!(refused(100_001, 49, 40_001, 0), Some(Refusal::Dimension));
+    assert_eq!(refused(50, 49, 40_001, 0), Some(Refusal::Mass));
+    assert_eq!(refused(50, 50, 40_001, 0), Some(Refusal::Speed));
+    for dimension in [50, 999, 40_001, 100_000] {
+        assert_eq!(refused(dimension, 50, 40_000, 0), Some(Refusal::FrontalDimension));
+    }
+    for (height, budget) in [(0, 1), (1, 0), (0, 0), (HEIGHT_MOST + 1, 1), (1, BUDGET_MOST + 1), (0, BUDGET_MOST)] {
+        let light = Aircraft { dimension: 1_000, mass: 50, speed: 40_000 };
+        assert_eq!(descent(light, height, budget), Err(Refusal::HeightOrBudget));
+    }
+    assert_eq!(refused(1_000, 50, 40_000, 1), Some(Refusal::NegativeSpeed));
+    assert_eq!(refused(40_000, 50, 40_000, HEIGHT_MOST), Some(Refusal::NegativeSpeed));
+    assert_eq!(refused(40_000, 25_000_000, 40_000, HEIGHT_MOST), None);
 }
 
 /// A map with people in one marked cell.
@@ -399,7 +474,7 @@ fn refusals_are_found_by_their_numbers() {
             Ok(refusal) => assert_eq!((Some(refusal), refusal.number()), (found, number)),
             Err(error) => assert_eq!((None, error.number()), (found, number)),
         }
-        assert_eq!(found.is_some(), (1..=16).contains(&number));
+        assert_eq!(found.is_some(), (1..=19).contains(&number));
     }
 }
 
@@ -416,7 +491,8 @@ fn ranges_are_as_the_messages_say() {
     type Refused<'a> = &'a dyn Fn(u32) -> Option<Refusal>;
     let (counts, marks) = one_cell(1, 0);
     let cell_area = |cell_area| footprint(&counts, &marks, cell_area).err();
-    let ranges: [(Refusal, u32, u32, Refused); 8] = [
+    let of_descent = |aircraft| descent(aircraft, 1, BUDGET_MOST).err();
+    let ranges: [(Refusal, u32, u32, Refused); 14] = [
         (Refusal::Dimension, 50, 100_000, &|dimension| sheet(Aircraft { dimension, ..P2 }).err()),
         (Refusal::Mass, 50, 25_000_000, &|mass| sheet(Aircraft { mass, ..P2 }).err()),
         (Refusal::Speed, 0, 40_000, &|speed| sheet(Aircraft { speed, ..P2 }).err()),
@@ -425,6 +501,12 @@ fn ranges_are_as_the_messages_say() {
         (Refusal::Mass, 50, 25_000_000, &|mass| high_angle(Aircraft { mass, ..P2 }).err()),
         (Refusal::Speed, 0, 40_000, &|speed| high_angle(Aircraft { speed, ..P2 }).err()),
         (Refusal::FrontalDimension, 1_000, 40_000, &|dimension| high_angle(Aircraft { dimension, ..P2 }).err()),
+        (Refusal::Dimension, 50, 100_000, &|dimension| of_descent(Aircraft { dimension, ..P2 })),
+        (Refusal::Mass, 50, 25_000_000, &|mass| of_descent(Aircraft { mass, ..P2 })),
+        (Refusal::Speed, 0, 40_000, &|speed| of_descent(Aircraft { speed, ..P2 })),
+        (Refusal::FrontalDimension, 1_000, 40_000, &|dimension| of_descent(Aircraft { dimension, ..P2 })),
+        (Refusal::HeightOrBudget, 1, HEIGHT_MOST, &|height| descent(P2, height, 1).err()),
+        (Refusal::HeightOrBudget, 1, BUDGET_MOST, &|budget| descent(P2, 1, budget).err()),
     ];
     for (refusal, low, high, refused) in ranges {
         let range = format!(" {} to {} ", with_commas(low as usize), with_commas(high as usize));
@@ -453,6 +535,7 @@ fn refusals_say_what_is_allowed() {
         (Refusal::BufferLength, MAP_ROWS),
         (Refusal::TextLength, TEXT_LENGTH),
         (Refusal::FrameLength, FRAME_LENGTH),
+        (Refusal::BudgetSpent, BUDGET_MOST as usize),
     ] {
         assert!(refusal.message().contains(&format!(" {} ", with_commas(length))), "{refusal}");
     }
@@ -486,6 +569,8 @@ fn sizes_are_those_of_the_header() {
         ("sheet", size_of::<Sheet>()),
         ("sheet_answer", size_of::<SheetAnswer>()),
         ("high_angle", size_of::<HighAngle>()),
+        ("fall", size_of::<Fall>()),
+        ("descent", size_of::<Descent>()),
         ("footprint", size_of::<Footprint>()),
         ("intrinsic_class", size_of::<IntrinsicClass>()),
         ("final_class", size_of::<FinalClass>()),

@@ -8,6 +8,7 @@ use native.Mathlib.Numerals.{add-one}
 use native.Mathlib.Omega.{arith}
 use borrow.Author.Tests.{le-ltb, ltb-true, ltb-false, leb-true, leb-false, eqb-true}
 use lib.Dec.{ltb, leb, eqb}
+use mir.Val.{boolByte}
 use Rattle.arithmetic.specs.Conditions.{outside, anyBelow}
 
 pub lt-or-le : (a b : ℕ) → (a < b) ⊎ (b ≤ a)
@@ -26,6 +27,11 @@ neither false b e = (refl, e)
 pub both : (a b : Bool) → (a && b) ≡ true → (a ≡ true) × (b ≡ true)
 both true b e = (refl, e)
 both false b e = absurd (false≢true e)
+
+-- a test as a number
+pub byte-is : (t : Bool) → boolByte t ≡ cond t 1 0
+byte-is true = refl
+byte-is false = refl
 
 -- a choice by a test is within a bound that both values keep
 pub cond-le : (t : Bool) {a b k : ℕ} → a ≤ k → b ≤ k → cond t a b ≤ k

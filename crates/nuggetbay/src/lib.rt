@@ -2,6 +2,7 @@
 ghost use mathlib.Core.Path.{_≡_};
 ghost use Rattle.sheet.specs.Sheet.{sheetOf};
 ghost use Rattle.high_angle.specs.HighAngle.{highAngleOf};
+ghost use Rattle.descent.specs.Descent.{descentOf};
 ghost use Rattle.footprint.specs.Footprint.{footprintOf};
 ghost use Rattle.risk_class.specs.ClassTable.{intrinsicClassOf};
 ghost use Rattle.risk_class.specs.Mitigation.{finalClassOf};
@@ -14,6 +15,8 @@ use assessment::assess;
 use case_text::Reading;
 use case_text::read_case;
 use columns::size_column;
+use descent::Descent;
+use descent::descent_of;
 use footprint::Footprint;
 use footprint::footprint_on_map;
 use frame::FrameFields;
@@ -44,6 +47,20 @@ pub extern "C" fn nb_high_angle(dimension: u32, mass: u32, speed: u32) -> HighAn
     ensures { λ r. ⌜ r ≡ highAngleOf dimension mass speed ⌝ }
 {
     high_angle_of(dimension, mass, speed)
+}
+
+// The descent of a multirotor from its operating height.
+#[no_mangle]
+pub extern "C" fn nb_descent(
+    dimension: u32,
+    mass: u32,
+    speed: u32,
+    height: u32,
+    budget: u32,
+) -> Descent
+    ensures { λ r. ⌜ r ≡ descentOf dimension mass speed height budget ⌝ }
+{
+    descent_of(dimension, mass, speed, height, budget)
 }
 
 // The footprint on a lent map.

@@ -1,21 +1,17 @@
 -- `footprint::row::with_cell` meets its contract.
-use mathlib.Core.Path.{_≡_, refl, ap, _∙_}
-use mathlib.Core.Bool.{Bool, true, false, cond}
+use mathlib.Core.Path.{ap, _∙_}
 use Prim.Native.Nat.{_+_}
 use native.Mathlib.Omega.{arith}
 use borrow.Author.Needs.{needs}
 use lib.Bits.{bitOr}
 use lib.Dec.{ltb}
 use mir.Val.{boolByte}
+use Rattle.arithmetic.proofs.TestLaws.{byte-is}
 use Rattle.footprint.specs.PrivateWalk.{aboveLimit}
 use Rattle.footprint.proofs.CellLaws.{signed-less, or-larger}
 use Rattle.footprint.proofs.RowLaws.{above-lt}
 use Rattle.footprint.proofs.row.with_cell.Statement.{statement}
 use Rattle.footprint.proofs.row.with_cell.Tie as tie
-
-byte-is : (t : Bool) → boolByte t ≡ cond t 1 0
-byte-is true = refl
-byte-is false = refl
 
 add-t4 : tie.Need-add-t4
 add-t4 c = search needs

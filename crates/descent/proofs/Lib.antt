@@ -1,0 +1,4 @@
+pub mod FallLaws
+pub mod FirstState
+pub mod StateLaws
+pub mod PromisesHold

@@ -1,0 +1,3 @@
+pub mod DescentPoint
+pub mod PointTable
+pub mod Points

@@ -1,0 +1,1 @@
+// Worked falls: a table that the checker works out, with one claim. There is nothing to run.
