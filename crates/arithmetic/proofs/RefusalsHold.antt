@@ -1,10 +1,10 @@
 -- What specs/Refusals.antt promises of an answer after tests, for every list with distinct numbers.
-use mathlib.Core.Path.{◌≡◌, sym, ◌∙◌}
+use mathlib.Core.Path.{◌≡◌, sym, ◌∙◌, subst}
 use mathlib.Core.Bool.{Bool, true, false, cond}
 use mathlib.Core.List.{List, [], ◌∷◌}
 use Prim.Native.Nat.{ℕ}
 use borrow.Author.Tests.{eq-eqb, ne_eqb}
-use Rattle.arithmetic.specs.Refusals.{Test, answered, first_refusal, distinct, AnswerPromise}
+use Rattle.arithmetic.specs.Refusals.{Test, OneOf, answered, first_refusal, numbers, distinct, AnswerPromise}
 use Rattle.arithmetic.proofs.RefusalLaws.{first_exactly_when, first_listed, by_number}
 
 module _ {A : Type 0} (accepted : A) (refused : ℕ → A) (refusal : A → ℕ) (accepted_0 : refusal accepted ≡ 0) (refused_n : (n : ℕ) → refusal (refused n) ≡ n) where
@@ -23,7 +23,7 @@ module _ {A : Type 0} (accepted : A) (refused : ℕ → A) (refusal : A → ℕ)
       let whole = by_number accepted refused ts d in
       record {
         exactly_when = λ n. (λ k. (first_exactly_when ts d n).0 (sym e ∙ k), λ k. e ∙ (first_exactly_when ts d n).1 k);
-        listed = rw e (first_listed ts);
+        listed = subst (λ n. OneOf n (0 ∷ numbers ts)) (sym e) (first_listed ts);
         if_accepted = λ z. sym whole ∙ simp (eq-eqb _ _ (sym e ∙ z));
         if_refused = λ z. sym whole ∙ simp (ne_eqb _ _ (λ k. z (e ∙ k)), e);
       }

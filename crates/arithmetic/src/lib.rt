@@ -1,4 +1,6 @@
 // Whole-number arithmetic that several crates use.
+#![tactic(auto)]
+
 ghost use Rattle.std.specs.Prelude.{◌≡◌, ◌-◌};
 
 // a - b, or 0 where that is negative.

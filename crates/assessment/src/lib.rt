@@ -1,4 +1,6 @@
 // The assessment of an aircraft over a lent map: sheet, footprint, intrinsic and final class, or the first refusal.
+#![tactic(auto)]
+
 ghost use Rattle.std.specs.Prelude.{◌≡◌};
 ghost use Rattle.assessment.specs.Assessment.{refused_assessment, assessment_of};
 

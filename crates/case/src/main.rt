@@ -1,4 +1,6 @@
 // Reads a case text from standard input and writes its frame to standard output.
+#![tactic(auto)]
+
 use libc::{STDIN_FILENO, STDOUT_FILENO};
 
 // One byte more than a text has, so that a longer input is seen to be longer; nothing is read beyond it.

@@ -1,4 +1,6 @@
 // The reading of a case text.
+#![tactic(auto)]
+
 mod fill;
 mod layout;
 mod refusals;

@@ -1,5 +1,7 @@
 // The column of the class table and the flag, from an area between two numbers (document 01, "The aircraft and its area"); the size
 // column, from a dimension and a speed (document 02, item 1).
+#![tactic(auto)]
+
 ghost use Rattle.std.specs.Prelude.{◌≡◌};
 ghost use Rattle.columns.specs.Column.{column_and_flag_of};
 ghost use Rattle.columns.specs.SizeColumn.{size_column_of};

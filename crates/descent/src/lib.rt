@@ -1,4 +1,6 @@
 // The descent of a multirotor from its operating height, stepped until it reaches the ground (document 02, item 4).
+#![tactic(auto)]
+
 ghost use Rattle.std.specs.Prelude.{◌≡◌};
 ghost use Rattle.descent.specs.Descent.{body_of, first_state, landed, refused_descent, fall_from, descent_of};
 

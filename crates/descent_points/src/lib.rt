@@ -1,1 +1,3 @@
 // Worked falls: a table that the checker works out, with one claim. There is nothing to run.
+#![tactic(auto)]
+

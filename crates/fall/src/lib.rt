@@ -1,4 +1,6 @@
 // The state of a fall and one step of it, 0.01 s (document 02, item 4). Every operation is in the order of the item's words.
+#![tactic(auto)]
+
 ghost use Rattle.std.specs.Prelude.{◌≡◌};
 ghost use Rattle.fall.specs.Step.{half, next_guess, after_rounds, speed_of, next_state};
 ghost use Rattle.fall.specs.PrivateRounds.{next_twice, in_range};

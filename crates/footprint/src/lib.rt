@@ -1,4 +1,6 @@
 // The footprint on the map: the marked cells' highest table row, first largest count, people and number.
+#![tactic(auto)]
+
 mod cell;
 mod row;
 mod walk;

@@ -1,4 +1,6 @@
 // The printed frame.
+#![tactic(auto)]
+
 ghost use Rattle.std.specs.Prelude.{◌≡◌, ◌≤◌, length, take, drop};
 ghost use Rattle.arithmetic.specs.Lists.{stored};
 ghost use Rattle.hex_text.specs.Digits.{written};

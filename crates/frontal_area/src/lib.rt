@@ -1,4 +1,6 @@
 // The frontal area of a multirotor, by straight lines between five points, and its refusal (document 02, item 2).
+#![tactic(auto)]
+
 ghost use Rattle.std.specs.Prelude.{◌≡◌};
 ghost use Rattle.arithmetic.specs.Refusals.{first_refusal};
 ghost use Rattle.frontal_area.specs.FrontalArea.{frontal_area_of, multirotor_tests};

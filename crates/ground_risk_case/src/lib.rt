@@ -1,4 +1,6 @@
 // The whole case, from its text to the printed frame.
+#![tactic(auto)]
+
 ghost use Rattle.std.specs.Prelude.{◌≡◌};
 ghost use Rattle.ground_risk_case.specs.Case.{printed_fields, CaseContract};
 

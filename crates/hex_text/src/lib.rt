@@ -1,4 +1,6 @@
 // Hexadecimal digits of the house text: numbers read from lent parts, a number written into a lent part, and lines.
+#![tactic(auto)]
+
 mod block;
 mod line;
 mod numbers;

@@ -1,4 +1,6 @@
 // The high impact angle area of a multirotor (document 02, item 2).
+#![tactic(auto)]
+
 ghost use Rattle.std.specs.Prelude.{◌≡◌, ◌≤◌};
 ghost use Rattle.sheet.specs.Ranges.{mass_max};
 ghost use Rattle.frontal_area.specs.FrontalArea.{last_dimension};

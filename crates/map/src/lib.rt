@@ -1,4 +1,6 @@
 // A map of head counts and the marks of a footprint on it: its size, its ranges, its refusals, and the table row of a cell.
+#![tactic(auto)]
+
 mod counts;
 mod density;
 mod marks;

@@ -1,4 +1,6 @@
 // The boundary: every operation that a console written in C or Rust may call. Each one answers what the operation that it passes on to answers.
+#![tactic(auto)]
+
 ghost use Rattle.std.specs.Prelude.{◌≡◌};
 ghost use Rattle.sheet.specs.Sheet.{sheet_of};
 ghost use Rattle.high_angle.specs.HighAngle.{high_angle_of};

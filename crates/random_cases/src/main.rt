@@ -1,4 +1,6 @@
 // Makes the random cases of docs/RANDOM_CASES.md and writes what the proved code prints for each, a line a case.
+#![tactic(auto)]
+
 mod aircraft_kinds;
 mod class_kinds;
 mod kinds;

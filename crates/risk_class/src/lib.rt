@@ -1,4 +1,6 @@
 // The intrinsic class of the class table, and the final class after the mitigation word.
+#![tactic(auto)]
+
 mod class_table;
 mod mitigation;
 

@@ -1,4 +1,6 @@
 // The aircraft's sheet (document 01, "The aircraft and its area").
+#![tactic(auto)]
+
 ghost use Rattle.std.specs.Prelude.{◌≡◌};
 ghost use Rattle.arithmetic.specs.Refusals.{first_refusal};
 ghost use Rattle.sheet.specs.Ranges.{InRange};
