@@ -1,22 +1,47 @@
 // Reads a case text from standard input and writes its frame to standard output.
 #![tactic(auto)]
 
-use libc::{STDIN_FILENO, STDOUT_FILENO};
+ghost use Rattle.std.specs.Prelude.{◌≤◌, length};
+
+use std::io::{ErrorKind, Read};
 
 // One byte more than a text has, so that a longer input is seen to be longer; nothing is read beyond it.
 const READ_AT_MOST: usize = case_text::TEXT_LENGTH + 1;
 
-fn main() {
+// Fills the buffer, and says how much of it: all, or what came before the input's end. A read that fails ends the input, unless it was
+// a signal that interrupted it.
+fn read_full<R: Read>(input: &mut R, into: &mut [u8]) -> usize
+    ensures { result ≤ length into.new }
+{
+    let mut filled: usize = 0;
+    for _ in 0..u64::MAX {
+        if filled == into.len() {
+            break;
+        }
+        match input.read(&mut into[filled..]) {
+            Ok(0) => break,
+            Ok(n) => filled += n,
+            Err(error) => {
+                if error.kind() != ErrorKind::Interrupted {
+                    break;
+                }
+            }
+        }
+    }
+    filled
+}
+
+fn main(rt: HostRuntime) {
     let mut text = [0u8; READ_AT_MOST];
-    let n = io::read_full(STDIN_FILENO, &mut text);
+    let n = read_full(&mut rt.reader(), &mut text);
     let mut counts = [0u32; case_text::COUNTS_LENGTH];
     let mut marks = [0u64; case_text::MARKS_LENGTH];
     let mut frame = [0u8; frame::FRAME_LENGTH];
     let refusal = ground_risk_case::print_case(&text[..n], &mut counts, &mut marks, &mut frame);
     // a write that fails ends the program as one that succeeds does: there is nobody left to tell
-    if refusal == 0 {
-        io::write_all(STDOUT_FILENO, &frame);
+    let _ = if refusal == 0 {
+        rt.write_all(&frame)
     } else {
-        io::write_all(STDOUT_FILENO, &frame[0..frame::REFUSAL_LENGTH]);
-    }
+        rt.write_all(&frame[..frame::REFUSAL_LENGTH])
+    };
 }
