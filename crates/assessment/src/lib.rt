@@ -9,7 +9,7 @@ use risk_class::{final_class, intrinsic_class, used_row};
 use sheet::{Sheet, sheet_of};
 
 #[repr(C)]
-#[derive(Drop)]
+#[derive(Clone, Copy)]
 pub struct Assessment {
     pub refusal: u8,
     pub sheet: Sheet,
