@@ -8,7 +8,7 @@ ghost use Rattle.columns.specs.SizeColumn.{size_column_of};
 
 // A number at most the exact one, and a number at least the exact one.
 #[repr(C)]
-#[derive(Drop)]
+#[derive(Clone, Copy)]
 pub struct Bracket {
     pub low: u64,
     pub high: u64,
@@ -20,7 +20,7 @@ const LIMITS: [u64; 5] = [65_000, 650_000, 6_500_000, 65_000_000, 650_000_000];
 pub const LAST_LIMIT: u64 = LIMITS[4];
 
 // The largest dimension, in millimetres, and the largest speed, in centimetres a second, of a size column.
-#[derive(Drop)]
+#[derive(Clone, Copy)]
 struct SizePair {
     dimension: u32,
     speed: u32,
@@ -50,7 +50,7 @@ const SIZE_PAIRS: [SizePair; 5] = [
     },
 ];
 
-#[derive(Drop)]
+#[derive(Clone, Copy)]
 pub struct ColumnAndFlag {
     pub column: u8,
     pub flag: u8,

@@ -1,6 +1,6 @@
 -- The accuracy rule, of the answers of `high_angle_of`.
-use mathlib.Core.Path.{◌≡◌, refl, sym, ap₂}
-use Prim.Native.Nat.{ℕ, ◌*◌, ◌≤◌, ◌<◌}
+use mathlib.Core.Path.{◌≡◌, refl, ap₂}
+use Prim.Native.Nat.{ℕ, ◌*◌, ◌<◌}
 use native.Mathlib.Nat.{le_trans}
 use native.Mathlib.Omega.{arith}
 use lib.Dec.{lit≤, lit<}

@@ -19,7 +19,7 @@ use sheet::PERSON_WIDTH;
 // A refusal number, 0 for none. Then column and flag as on the sheet; the frontal area in square millimetres; the energy at terminal
 // speed in joules, the safety factor in thousandths and the area in square centimetres, each low and high. All zeros where it is refused.
 #[repr(C)]
-#[derive(Drop)]
+#[derive(Clone, Copy)]
 pub struct HighAngle {
     pub refusal: u8,
     pub column: u8,

@@ -13,7 +13,7 @@ fn fifth(f: u64) -> u64
 
 // The factor over a quarter of an octave of joules, a parabola: its start in 2⁴⁹ths of a thousandth, its rise at the start's rate and the
 // bend that is taken off by the end in 2²⁰ths.
-#[derive(Drop)]
+#[derive(Clone, Copy)]
 struct Arc(u64, u64, u64);
 
 // The parabola through the factor at the three Chebyshev nodes of a quarter octave. Octaves come from the highest down, with their quarters
@@ -78,7 +78,7 @@ pub(crate) fn guess(joules: u32) -> u64
 }
 
 // A number and its fifth power.
-#[derive(Drop)]
+#[derive(Clone, Copy)]
 struct Power {
     base: u64,
     fifth: u64,
@@ -99,7 +99,7 @@ fn at_most(start: u64, x: u64) -> Power
 }
 
 // A number, its fifth power and the next one's.
-#[derive(Drop)]
+#[derive(Clone, Copy)]
 pub(crate) struct Root {
     pub low: u64,
     pub below: u64,

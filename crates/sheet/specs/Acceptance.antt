@@ -1,9 +1,8 @@
 -- When a sheet is accepted and when it is refused: "A refusal comes when its condition holds and at no other time."
-use Rattle.std.specs.Prelude.{◌≡◌, true, false, ◌↔◌, ℕ, ◌≤◌, ◌<◌}
-use Rattle.arithmetic.specs.Conditions.{outside}
+use Rattle.std.specs.Prelude.{◌≡◌, ◌↔◌, ℕ, ◌≤◌, ◌<◌}
 use Rattle.arithmetic.specs.Refusals.{AnswerPromise}
 use Rattle.columns.specs.Column.{last_limit}
-use Rattle.sheet.specs.Ranges.{dimension_min, dimension_max, mass_min, mass_max, speed_max, InRange}
+use Rattle.sheet.specs.Ranges.{InRange}
 use Rattle.sheet.specs.declared.SheetAnswer.{SheetAnswer}
 use Rattle.sheet.specs.Sheet.{lines_of, refused_sheet, accepted_sheet, sheet_tests, sheet_of}
 

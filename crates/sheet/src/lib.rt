@@ -17,7 +17,7 @@ pub const PERSON_WIDTH: u64 = 600;
 // Lines 1 to 6, the column, the flag and the size column. Lengths are in micrometres, the total (T of document 01) in thousandths
 // of a square millimetre, the area in square centimetres.
 #[repr(C)]
-#[derive(Drop)]
+#[derive(Clone, Copy)]
 pub struct Sheet {
     pub glide: Bracket,
     pub run: Bracket,
@@ -33,7 +33,7 @@ pub struct Sheet {
 
 // A refusal number, 0 for none, and the sheet, all zeros where it is refused.
 #[repr(C)]
-#[derive(Drop)]
+#[derive(Clone, Copy)]
 pub struct SheetAnswer {
     pub refusal: u8,
     pub sheet: Sheet,

@@ -82,7 +82,7 @@ pub(crate) fn total(a: u64, glide: Bracket, slide: Bracket) -> Bracket
 }
 
 // How the code takes line 6: so many tenths of a total over 100,000, and whether the slide counts in that total.
-#[derive(Drop)]
+#[derive(Clone, Copy)]
 struct AreaRule {
     tenths: u64,
     with_slide: bool,

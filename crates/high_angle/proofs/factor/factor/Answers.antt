@@ -1,18 +1,17 @@
--- `factor` gives the low factor of the low joules and the high factor of the high joules.
 use mathlib.Core.Path.{◌≡◌, refl, sym, ap, ap₂, ◌∙◌}
 use mathlib.Core.Logic.{⊎_elim}
 use Prim.Native.Nat.{ℕ, ◌*◌, ◌≤◌, ◌<◌}
 use native.Mathlib.Nat.{le_refl, le_trans, eq-or-lt_of_le}
 use lib.Dec.{lit≤}
 use native.Mathlib.Omega.{arith}
-use borrow.Author.Rules.{rules}
 use Rattle.columns.specs.Bracket.{bracket}
 use Rattle.columns.specs.declared.Bracket.{Bracket}
 use Rattle.high_angle.specs.SafetyFactor.{largest, smallest, root_from, root_to, factor_below, factor_above, root_scale, factor_by, low_factor, high_factor}
 use Rattle.high_angle.specs.HighAngle.{factor_of}
 use Rattle.high_angle.proofs.FactorLaws.{factor_below_lem, factor_above_lem, factor_between}
-use Rattle.high_angle.proofs.factor.factor.Statement.{statement}
-use Rattle.high_angle.proofs.factor.factor.Tie as tie
+use Rattle.high_angle.proofs.factor.factor.Goals as goal
+
+-- `factor` gives the low factor of the low joules and the high factor of the high joules.
 
 -- the root at 12,000 J, and at 3,125,000 J, by computation
 high_at_12_kj : high_factor root_from ≡ 2302
@@ -49,20 +48,14 @@ module _ (joules : Bracket) where
   unfolding factor_of
   both_above a b = ap₂ bracket (seven_low joules.low a) (seven_high joules.high (le_trans a b))
 
-returns : tie.Need-returns
-returns c = both_above _ (omega arith) (omega arith)
+pub returns-then-joules-ge-ROOT_TO : goal.returns-then-joules-ge-ROOT_TO
+returns-then-joules-ge-ROOT_TO c = both_above _ (omega arith) (omega arith)
 
-roots-requires : tie.Need-roots-requires
-roots-requires c κs = (c.before.before.before.before.requires, omega arith, omega arith)
+pub roots-requires : goal.roots-requires
+roots-requires c = (c.requires, omega arith, omega arith)
 
-returns-2 : tie.Need-returns-2
-returns-2 c = search rules
+pub returns-then-joules-lt-ROOT_FROM : goal.returns-then-joules-lt-ROOT_FROM
+returns-then-joules-lt-ROOT_FROM c = both_below _ (omega arith) (omega arith)
 
-returns-3 : tie.Need-returns-3
-returns-3 c = both_below _ (omega arith) (omega arith)
-
-returns-4 : tie.Need-returns-4
-returns-4 c = across _ (omega arith) (omega arith)
-
-pub factor_spec : {M : Type 1} → statement M
-factor_spec = tie.close (tie.spec returns roots-requires returns-2 returns-3 returns-4)
+pub returns : goal.returns
+returns c = across _ (omega arith) (omega arith)
