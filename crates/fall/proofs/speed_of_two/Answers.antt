@@ -4,6 +4,8 @@ use Rattle.fall.proofs.Literals.{zero_is}
 use Rattle.fall.proofs.FloatLaws.{speed_by_rounds}
 use Rattle.fall.proofs.speed_of_two.Goals as goal
 
+-- `speed_of_two` finds both speeds side by side, unless one of them is 0.
+
 pub returns : goal.returns
 returns c =
     let other = neither _ _ c.if-s-t.false in (

@@ -6,6 +6,8 @@ use mir.Facts.{to_z_pos}
 use mir.Syntax.{w8}
 use Rattle.risk_class.proofs.mitigation.after_m2.Goals as goal
 
+-- `risk_class::mitigation::after_m2` meets its contract.
+
 pub returns-then-class-credit : goal.returns-then-class-credit
 returns-then-class-credit c =
     let one_below : c.args.credit - suc c.args.class ≡ 0 = omega arith in simp (lt-ltb _ _ c.if-class-credit.true, one_below)
