@@ -1,11 +1,11 @@
 -- An input divided is the f64 nearest to the fraction; so the first state is in the air.
 use mathlib.Core.Path.{◌≡◌, refl, sym, ap, subst, ◌∙◌}
-use mathlib.Core.Bool.{Bool, true, false, cond, ◌||◌, true≢false, false≢true}
+use mathlib.Core.Bool.{Bool, true, false, cond, true≢false}
 use Prim.Native.Nat.{ℕ, zero, suc, ◌+◌, ◌-◌, ◌*◌, ◌/◌, ◌%◌, ◌^◌, compare, ◌≤◌, ◌<◌}
 use native.Mathlib.Nat.{lt_irrefl, mul_assoc, mul_comm, mul_left_comm, mul-one, mul-pos, zero-mul}
 use native.Mathlib.Omega.{arith}
 use lib.Count.{count_trailing_zeros}
-use lib.Dec.{T, eqb, ltb, leb, lit≤, lit<, ltb→lt}
+use lib.Dec.{T, ltb, lit<, ltb→lt}
 use lib.IntN.{ℤ, pos}
 use lib.Ieee.{Float, nan, inf, fin, binary64, prec, emax, low, up, down, minus, nearest, round, of_int, div, lt, le, eq, size, span, climb, units, odd}
 use lib.Ieee.Back.{round_whole}
@@ -14,10 +14,9 @@ use lib.Ieee.Fits.{up_pos, down_pos, round_is}
 use lib.Ieee.Order.{round_mono}
 use lib.Ieee.Positive.{positive, above, above_of_le}
 use lib.Ieee.Scale.{round_same}
-use borrow.Author.Tests.{ne_eqb, le-ltb, ltb-false}
+use borrow.Author.Tests.{ne_eqb}
 use Rattle.arithmetic.specs.Fraction.{◌over◌}
-use Rattle.fall.specs.Numbers.{decimal, whole, divided_by, in_metres}
-use Rattle.descent.specs.Descent.{first_state, speed_negative, ground_reached}
+use Rattle.fall.specs.Numbers.{decimal, whole, divided_by}
 use Rattle.fall.proofs.FloatLaws.{zero_made, finite_not_below}
 
 cross : (a c x y n d : ℕ) → a * 1 ≡ n * x → c * 1 ≡ d * y → a * y * d ≡ n * (c * x)
@@ -33,7 +32,11 @@ not_zero (suc k) g d q l z = absurd (omega arith)
 -- a quotient of two whole numbers, by their values
 quotient : (x y : Float) (n d : ℕ) → HasValue x false n 1 → HasValue y false d 1 → 0 < d → div binary64 x y ≡ round binary64 false n d
 unfolding div
+quotient nan y n d p q l = absurd p
+quotient (inf s) y n d p q l = absurd p
 quotient (fin true m e) y n d p q l = absurd (true≢false p.0)
+quotient (fin false m e) nan n d p q l = absurd q
+quotient (fin false m e) (inf s) n d p q l = absurd q
 quotient (fin false m e) (fin true k g) n d p q l = absurd (true≢false q.0)
 quotient (fin false m e) (fin false k g) n d p q l =
     let z = not_zero k g d q.1 l in
@@ -64,7 +67,7 @@ module _ where
   units_not_below q k = by_test (ltb (q * 2 ^ k) (2 ^ (low binary64 + suc (emax binary64))))
     where
       by_test : (t : Bool) → lt (cond t (odd (suc (prec binary64)) false q k (low binary64)) (inf false)) (fin false 0 (pos 0)) ≡ false
-      by_test true = odd_not_below _ q k _
+      by_test true = odd_not_below (suc (prec binary64)) q k (low binary64)
       by_test false = unfold lt in refl
 
   pub not_below : (n d : ℕ) → lt (decimal (n over d)) (whole 0) ≡ false

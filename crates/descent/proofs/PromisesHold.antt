@@ -1,22 +1,22 @@
 -- What is promised of every descent.
 use mathlib.Core.Path.{◌≡◌, refl, sym, ap, ◌∙◌}
 use mathlib.Core.Logic.{◌⊎◌, inl, inr, ⊎_elim, ◌↔◌}
-use mathlib.Core.Bool.{Bool, true, false, cond, true≢false, false≢true}
+use mathlib.Core.Bool.{Bool, true, false, false≢true}
 use mathlib.Core.List.{List, [], ◌∷◌}
-use Prim.Native.Nat.{ℕ, zero, suc, ◌≤◌, ◌<◌}
+use Prim.Native.Nat.{ℕ, suc, ◌≤◌, ◌<◌}
 use native.Mathlib.Nat.{le_refl, le_trans, lt_of_lt_of_le, le_of_suc-le-suc, eq-or-lt_of_le}
 use native.Mathlib.Omega.{arith}
 use lib.Dec.{eqb, lit≤}
 use borrow.Author.Tests.{eqb-true, eqb-false}
 use Rattle.arithmetic.specs.Conditions.{outside}
-use Rattle.arithmetic.specs.Refusals.{Test, first_refusal, FirstToHold, OneOf, numbers}
+use Rattle.arithmetic.specs.Refusals.{Test, first_refusal, FirstToHold, OneOf}
 use Rattle.arithmetic.proofs.RefusalLaws.{first_exactly_when, use_of, first_listed, one_of_more, one_of_le, refused_by, accepted_by}
 use Rattle.arithmetic.proofs.TestLaws.{lt_or_le, neither, inside, not_outside}
 use Rattle.sheet.proofs.RangeLaws.{within, tests_fail}
 use Rattle.frontal_area.specs.FrontalArea.{first_dimension, last_dimension}
 use Rattle.fall.specs.Numbers.{in_metres}
-use Rattle.descent.specs.Descent.{speed_negative, ground_reached, above60, landed, refused_descent, fall_of, height_max, budget_max, descent_tests, descent_of}
-use Rattle.descent.specs.Promises.{state_of, InTheAir, EndsAt, TurnsNegativeAt, DescentInRange, WithinBudget, Landed, DescentPromise, BudgetLaw, DescentLaws}
+use Rattle.descent.specs.Descent.{speed_negative, ground_reached, landed, refused_descent, fall_of, height_max, budget_max, descent_tests, descent_of}
+use Rattle.descent.specs.Promises.{state_of, InTheAir, EndsAt, TurnsNegativeAt, DescentInRange, DescentPromise, BudgetLaw, DescentLaws}
 use Rattle.descent.specs.declared.Descent.{Descent}
 use Rattle.fall.specs.declared.Fall.{Fall}
 use Rattle.descent.proofs.FirstState.{division_nearest}

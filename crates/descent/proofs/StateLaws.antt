@@ -1,22 +1,21 @@
 -- The states of a fall, one after the other: where it ends, where a speed turns negative, or that all are in the air.
-use mathlib.Core.Path.{◌≡◌, refl, sym, ap, ◌∙◌}
-use mathlib.Core.Logic.{◌⊎◌, inl, inr, ⊎_elim}
+use mathlib.Core.Path.{◌≡◌, refl, ap, ◌∙◌}
+use mathlib.Core.Logic.{⊎_elim}
 use mathlib.Core.Bool.{Bool, true, false}
-use Prim.Native.Nat.{ℕ, zero, suc, ◌+◌, ◌-◌, ◌≤◌, ◌<◌}
+use Prim.Native.Nat.{ℕ, zero, suc, ◌-◌, ◌≤◌, ◌<◌}
 use native.Mathlib.Nat.{sub-zero, sub_self, eq-or-lt_of_le, le_of_suc-le-suc, le_refl, le_trans}
 use native.Mathlib.Numerals.{add-one}
 use native.Mathlib.Omega.{arith}
 use lib.Dec.{lit≤, lit<}
 use lib.IntN.{pos}
-use lib.Ieee.{Float, lt}
+use lib.Ieee.{lt}
 use Rattle.sheet.specs.Ranges.{speed_max}
 use Rattle.fall.specs.Numbers.{whole, in_metres}
 use Rattle.fall.specs.Step.{next_state, state_after}
 use Rattle.descent.specs.Descent.{body_of, first_state, speed_negative, ground_reached, landed, refused_descent, fall_from, fall_of, height_max}
-use Rattle.descent.specs.Promises.{state_of, InTheAir, EndsAt, TurnsNegativeAt}
+use Rattle.descent.specs.Promises.{state_of, InTheAir}
 use Rattle.fall.specs.declared.Fall.{Fall}
 use Rattle.descent.specs.declared.Descent.{Descent}
-use Rattle.fall.specs.declared.Body.{Body}
 use Rattle.fall.proofs.FloatLaws.{zero_made, finite_not_below}
 use Rattle.descent.proofs.FirstState.{division_nearest, not_below, beyond}
 use Rattle.descent.proofs.FallLaws.{spent, refused_19, ground, in_the_air}

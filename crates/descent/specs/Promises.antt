@@ -1,5 +1,5 @@
 -- What is promised of every descent.
-use Rattle.std.specs.Prelude.{◌≡◌, ◌⊎◌, ◌↔◌, true, false, cond, List, [], ◌∷◌, ℕ, ◌^◌, ◌≤◌, ◌<◌}
+use Rattle.std.specs.Prelude.{◌≡◌, ◌↔◌, true, false, cond, [], ◌∷◌, ℕ, ◌^◌, ◌≤◌, ◌<◌}
 use Rattle.arithmetic.specs.Fraction.{◌over◌}
 use Rattle.arithmetic.specs.Refusals.{FirstToHold, OneOf, numbers}
 use Rattle.frontal_area.specs.FrontalArea.{MultirotorInRange}

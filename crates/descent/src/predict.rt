@@ -8,11 +8,11 @@ ghost use Rattle.descent.specs.PrivatePredicted.{Predicted, in_flight, same_spee
 use fall::{Body, Fall, step_of_two};
 
 // The speeds of the last four states, the latest first, found or predicted.
-#[derive(Drop)]
+#[derive(Clone, Copy)]
 pub struct Speeds(pub f64, pub f64, pub f64, pub f64);
 
 // A state, the number of steps that made it, and the speeds of the states before it.
-#[derive(Drop)]
+#[derive(Clone, Copy)]
 pub struct Progress {
     pub state: Fall,
     pub steps: u32,

@@ -1,13 +1,13 @@
 -- Two f64 that compare as equal are the same, zeros left out: +0 and −0 compare as equal. A round that returns its guess returns it for ever.
 use mathlib.Core.Path.{◌≡◌, refl, sym, ap, subst, ◌∙◌}
-use mathlib.Core.Bool.{Bool, true, false, cond, ◌&&◌, ◌||◌, beq, true≢false, false≢true}
+use mathlib.Core.Bool.{Bool, true, false, cond, ◌&&◌, ◌||◌, beq, false≢true}
 use Prim.Native.Nat.{ℕ, zero, suc, ◌+◌, ◌-◌, ◌*◌, ◌/◌, ◌^◌, ◌<◌}
 use native.Mathlib.Nat.{lt_irrefl, mul_right_comm, mul-pos, zero-lt-suc}
 use native.Mathlib.Omega.{arith}
-use lib.Dec.{T, eqb, ltb}
+use lib.Dec.{T, eqb, lit<}
 use lib.Count.{count_trailing_zeros}
 use lib.IntN.{ℤ, pos}
-use lib.Ieee.{Float, nan, inf, fin, binary64, prec, low, top, hid, up, down, level, size, fits, eq, lt, add, mul, div, to_bits, of_bits, of_int, round, span, climb, units, odd}
+use lib.Ieee.{Float, nan, inf, fin, binary64, prec, low, top, hid, up, down, size, fits, eq, lt, add, mul, div, to_bits, of_bits, of_int, round, span, climb, units, odd}
 use lib.Ieee.Bits.{of_bits-to_bits}
 use lib.Ieee.Fits.{up_pos, down_pos, mul-fits}
 use lib.Ieee.Nearest.{div_same}
@@ -178,6 +178,19 @@ round_made all n sum guess h = let left : all - n ≡ suc (all - (n + 1)) = omeg
 pub rounds_made : (sum guess : Float) → after_rounds 0 sum guess ≡ guess
 unfolding after_rounds
 rounds_made sum guess = refl
+
+-- the second round returns the first one's
+pub two_rounds_enough : (sum first : Float) {one two : Float} → one ≡ next_guess sum first → two ≡ next_guess sum one → eq two one ≡ true → two ≡ after_rounds 6 sum first
+two_rounds_enough sum first {one} {two} e f h =
+    f
+    ∙ guess_stays 5 sum one (rw e (guess_fits sum first)) (ap (λ (x : Float). eq x one) (sym f) ∙ h)
+    ∙ ap (after_rounds 5 sum) e
+    ∙ sym (round_made 6 0 sum first (lit< tt))
+
+pub six_made : (sum first : Float) {one two three four five six : Float} → one ≡ next_guess sum first → two ≡ next_guess sum one → three ≡ next_guess sum two
+    → four ≡ next_guess sum three → five ≡ next_guess sum four → six ≡ next_guess sum five → six ≡ after_rounds 6 sum first
+unfolding after_rounds
+six_made sum first a b c d e f = cc
 
 -- the speed of a state that isn't at rest
 pub speed_by_rounds : (s : Fall) {speed : Float} → (eq s.horizontal (whole 0) && eq s.downward (whole 0)) ≡ false

@@ -1,12 +1,12 @@
 -- Rounds that keep twice their guess make the same guesses, to the last bit, where sum and first guess are in range.
-use mathlib.Core.Path.{◌≡◌, refl, sym, ap, subst, ◌∙◌}
+use mathlib.Core.Path.{◌≡◌, refl, sym, ap, ◌∙◌}
 use mathlib.Core.Bool.{true, false, ◌&&◌, false≢true}
 use Prim.Native.Nat.{ℕ, zero, suc, ◌+◌, ◌*◌, ◌^◌, ◌≤◌, ◌<◌}
-use native.Mathlib.Nat.{le_of_eq, lt_of_lt_of_le, mul_assoc, mul_comm, mul_right_comm, mul-le-mul_right}
+use native.Mathlib.Nat.{lt_of_lt_of_le, mul-le-mul_right}
 use native.Mathlib.Omega.{arith}
 use lib.Count.{count_trailing_zeros}
 use lib.Dec.{T, lit≤, eqb-suc-zero, lt→ltb}
-use lib.IntN.{ℤ, pos, negsuc}
+use lib.IntN.{pos, negsuc}
 use lib.Ieee.{Float, nan, inf, fin, binary64, fits, eq, lt, add, mul, div, up, down, of_int, round, size, span, climb, units, odd}
 use lib.Ieee.Fits.{add-fits}
 use lib.Ieee.Positive.{num, den, positive, den_pos, own_value, first_pos}

@@ -2,7 +2,7 @@
 use Rattle.std.specs.Prelude.{false, ℕ, pos, Float}
 use Rattle.std.specs.Float.{binary64}
 use Rattle.std.specs.Float.Ieee.{round, of_int, div}
-use Rattle.arithmetic.specs.Fraction.{Fraction, ◌over◌}
+use Rattle.arithmetic.specs.Fraction.{Fraction}
 
 -- a decimal of the item: the f64 nearest to it
 unfoldable pub decimal : Fraction → Float

@@ -1,5 +1,5 @@
 -- One step of the fall (document 02, item 4; annex 1 of 002): the state is horizontal speed, downward speed and distance fallen, in m/s, m/s and m.
-use Rattle.std.specs.Prelude.{Bool, cond, ◌&&◌, ℕ, zero, suc, Float}
+use Rattle.std.specs.Prelude.{cond, ◌&&◌, ℕ, zero, suc, Float}
 use Rattle.std.specs.Float.{binary64}
 use Rattle.std.specs.Float.Ieee.{add, sub, mul, div, eq}
 use Rattle.arithmetic.specs.Fraction.{◌over◌}
