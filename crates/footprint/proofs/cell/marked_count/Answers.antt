@@ -6,6 +6,8 @@ use Rattle.map.specs.Map.{count_at, bit_at}
 use Rattle.footprint.proofs.CellLaws.{four_bit, masked}
 use Rattle.footprint.proofs.cell.marked_count.Goals as goal
 
+-- `footprint::cell::marked_count` meets its contract.
+
 pub returns : goal.returns
 returns c =
     let four = c.args.bits / 2 ^ (60 - 4 * c.args.k) % 16 in

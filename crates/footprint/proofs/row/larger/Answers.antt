@@ -6,6 +6,8 @@ use lib.Dec.{ltb}
 use Rattle.footprint.proofs.CellLaws.{signed_less}
 use Rattle.footprint.proofs.row.larger.Goals as goal
 
+-- `footprint::row::larger` gives the larger of two keys: below the sign bit a signed comparison is that of the numbers.
+
 pub returns-then-a-b : goal.returns-then-a-b
 returns-then-a-b c =
     let less : ltb c.args.a c.args.b ≡ true = sym (signed_less c.args.a c.args.b (omega arith) (omega arith)) ∙ c.if-a-b.true in

@@ -10,6 +10,8 @@ use Rattle.footprint.proofs.CellLaws.{signed_less, or_larger}
 use Rattle.footprint.proofs.RowLaws.{above_lt}
 use Rattle.footprint.proofs.row.with_cell.Goals as goal
 
+-- `footprint::row::with_cell` meets its contract.
+
 pub returns : goal.returns
 returns c =
     let less = ap bool_byte (signed_less c.args.limit c.args.n (omega arith) (omega arith)) ∙ byte_is (ltb c.args.limit c.args.n) in
