@@ -20,7 +20,7 @@ pub const MARKS_LENGTH: usize = map::MAP_ROWS;
 
 // Line 1 of a case text.
 #[repr(C)]
-#[derive(Drop)]
+#[derive(Clone, Copy)]
 pub struct CaseHead {
     pub dimension: u32,
     pub mass: u32,
@@ -32,7 +32,7 @@ pub struct CaseHead {
 
 // What a reading answers: the refusal number, 0 where there is none, and line 1, all zeros where it is refused.
 #[repr(C)]
-#[derive(Drop)]
+#[derive(Clone, Copy)]
 pub struct Reading {
     pub refusal: u8,
     pub head: CaseHead,

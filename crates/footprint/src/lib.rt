@@ -17,7 +17,7 @@ use crate::walk::{MapWalk, walk_map};
 use map::{MAP_COLUMNS, map_refusal, table_row};
 
 #[repr(C)]
-#[derive(Drop)]
+#[derive(Clone, Copy)]
 pub struct Footprint {
     pub refusal: u8,
     pub row: u8,

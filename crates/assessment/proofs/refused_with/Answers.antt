@@ -1,0 +1,4 @@
+use Rattle.assessment.proofs.refused_with.Goals as goal
+
+pub returns : goal.returns
+returns c = rw (c.refused-sheet.ensures, c.refused-footprint.ensures)
