@@ -46,8 +46,8 @@ class Definition(NamedTuple):
 
     @property
     def words(self):
-        """The words by which it is used: an operator such as _over_ by those between its places."""
-        between = [] if "«" in self.name else [word for word in self.name.split("_") if word]
+        """The words by which it is used: an operator such as ◌over◌ by those between its places."""
+        between = [word for word in self.name.split("◌") if word]
         return {self.name, *between}
 
     def __str__(self):
@@ -65,8 +65,8 @@ class Statement(NamedTuple):
 # Names in a text
 # ---------------------------------------------------------------------------
 
-TOKEN = re.compile(r"λ|[(){};,⌜⌝]|[^\s(){};,⌜⌝λ]+")
-MARKS = set("λ(){};,⌜⌝:=→.")
+TOKEN = re.compile(r"λ|[(){};,]|[^\s(){};,λ]+")
+MARKS = set("λ(){};,:=→.")
 
 
 def without_comments(text, mark):
@@ -91,11 +91,11 @@ def bound_in(tokens):
 
 
 def used_in(tokens):
-    """The names that a text uses: not those after a record (.a), nor the fields that a record is given (a = ..)."""
+    """The names that a text uses: not those after a record (r.a, ( .. ).a), nor the fields that a record is given (a = ..)."""
     for i, token in enumerate(tokens):
         given = i > 0 and tokens[i - 1] in ("{", ";") and tokens[i + 1:i + 2] == ["="]
         if token not in MARKS and not token.startswith(".") and not given:
-            yield token
+            yield token if token.startswith("Rattle.") else token.partition(".")[0]
 
 
 def cited_in(where, text, scope, unread, bound=()):
@@ -103,7 +103,7 @@ def cited_in(where, text, scope, unread, bound=()):
     tokens = TOKEN.findall(text)
     for name in sorted({*bound_in(tokens), *bound} & scope.keys()):
         unread.append(f"{where}: {name} is bound again")
-    unread += [f"{where}: {token} is named by its path" for token in tokens if token.startswith("Rattle·")]
+    unread += [f"{where}: {token} is named by its path" for token in tokens if token.startswith("Rattle.")]
     return {scope[name] for name in used_in(tokens) if name in scope}
 
 
@@ -150,13 +150,13 @@ def definitions_of(crate, file, text, unread):
     return found
 
 
-USE = re.compile(r"^(?:(pub|ghost) )?use (Rattle·[^\s{;]+?)(?:\.\{([^}]*)\})?(?: as \S+)?;?$", re.M)
-SPECS = re.compile(r"Rattle·(\w+)(?:·specs\.specs|\.specs)\.(?!declared\.)(.+)")
+USE = re.compile(r"^(?:(pub|ghost) )?use (Rattle\.(?!std\.)[^\s{;]+?)(?:\.\{([^}]*)\})?(?: as \S+)?;?$", re.M)
+SPECS = re.compile(r"Rattle\.(\w+)\.specs\.(?!declared\.)(.+)")
 
 
 def imported_in(where, text, unread):
     """Of each import from specs/: whether it is passed on, the crate and the file, the name there and the name here."""
-    if len(USE.findall(text)) != len(re.findall(r"\buse Rattle·", text)):
+    if len(USE.findall(text)) != len(re.findall(r"\buse Rattle\.(?!std\.)", text)):
         unread.append(f"{where}: an import that couldn't be read")
     for how, path, names in USE.findall(text):
         module = SPECS.fullmatch(path)
@@ -170,7 +170,7 @@ def imported_in(where, text, unread):
 
 def from_proofs(text):
     """The paths and the names that a file imports from proofs/."""
-    return [(path, names) for _, path, names in USE.findall(text) if "proofs" in re.split("[·.]", path)]
+    return [(path, names) for _, path, names in USE.findall(text) if "proofs" in path.split(".")]
 
 
 class Definitions:
@@ -223,9 +223,9 @@ class Definitions:
 # ---------------------------------------------------------------------------
 
 FUNCTION = re.compile(r'^( *)(pub(?:\([^)]*\))? )?(?:extern "C" )?fn (\w+)\(', re.M)
-CLAUSE = re.compile(r"[^{]*?\b(?:requires|ensures)\s*(?=\{)")
+CLAUSE = re.compile(r"[^{]*?\b(?:requires|ensures)(?: \w+)?\s*(?=\{)")
 IMPL = re.compile(r"^impl (\w+) \{$", re.M)
-PASSED_ON = re.compile(r"^pub use (?:crate::)?((?:\w+::)*)(\w+);$", re.M)
+PASSED_ON = re.compile(r"^pub use (?:crate::)?((?:\w+::)*)(?:(\w+)|\{(\w+(?:, \w+)*)\});$", re.M)
 
 
 def closed(text, start):
@@ -270,8 +270,9 @@ def functions_of(where, text, unread):
 def passed_on_from(crate, sources, unread):
     """The (module, name) that a crate's lib passes on, its own or another crate's. No module but lib can be named from outside."""
     text = sources.get("lib", "")
-    found = {(path.strip(":").replace("::", "/"), name) for path, name in PASSED_ON.findall(text)}
-    if len(found) != len(re.findall(r"\bpub (?:use|mod)\b", text)):
+    lines = PASSED_ON.findall(text)
+    found = {(path.strip(":").replace("::", "/"), name) for path, one, several in lines for name in (several or one).split(", ")}
+    if len(lines) != len(re.findall(r"\bpub (?:use|mod)\b", text)):
         unread.append(f"crates/{crate}/src/lib.rt: a name or a module is passed on in a way that couldn't be read")
     here = {module.split("/")[0] for module in sources} | {"self", "super"}
     for module, name in found:

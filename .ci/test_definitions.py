@@ -11,27 +11,27 @@ REAL = d.sources()
 SMALL = {
     "crates/low/specs/Lib.antt": "pub mod Numbers\npub mod PrivateSteps\n",
     "crates/low/specs/Numbers.antt": '''-- Numbers. A comment may name half.
-use Prim.Native.Nat.{ℕ, _+_}
+use Prim.Native.Nat.{ℕ, ◌+◌}
 
 abbrev pub double : ℕ → ℕ
 double n = n + n
 
 -- the second twice, which isn't half
-abbrev pub _then_ : ℕ → ℕ → ℕ
+abbrev pub ◌then◌ : ℕ → ℕ → ℕ
 a then b =
     a + double b
 
-infix 60 _then_
+infix 60 ◌then◌
 pub data Kind : Type 0 where
   even : Kind
   odd : Kind
 
-unfoldable pub kindOf : ℕ → Kind
-kindOf 0 = even
-kindOf n = odd
+unfoldable pub kind_of : ℕ → Kind
+kind_of 0 = even
+kind_of n = odd
 ''',
     "crates/low/specs/PrivateSteps.antt": '''use Prim.Native.Nat.{ℕ}
-use Rattle·low·specs.specs.Numbers.{double}
+use Rattle.low.specs.Numbers.{double}
 
 abbrev pub half : ℕ → ℕ
 half n = double n
@@ -44,44 +44,44 @@ pub struct Number {
     pub n: u8,
 }
 ''',
-    "crates/low/src/steps.rt": '''ghost use Rattle·low·specs.specs.Numbers.{double};
-ghost use Rattle·low·specs.specs.PrivateSteps.{half};
+    "crates/low/src/steps.rt": '''ghost use Rattle.low.specs.Numbers.{double};
+ghost use Rattle.low.specs.PrivateSteps.{half};
 
 pub(crate) fn halved(n: u8) -> [u8; 4]
-    requires { ⌜ half n ≡ 0 ⌝ }
+    requires { half n ≡ 0 }
 {
     [n; 4]
 }
 
 // half of it
 pub fn twice(n: u8) -> u8
-    ensures { λ r. ⌜ r ≡ double n ⌝ }
+    ensures { result ≡ double n }
 {
     n
 }
 ''',
     "crates/high/specs/Answer.antt": '''use Prim.Native.Nat.{ℕ}
-use Rattle·low.specs.Numbers.{_then_, kindOf as kind, even}
-pub use Rattle·low.specs.Numbers.{Kind}
-use Rattle·high·specs.specs.declared.Answer.{Answer}
+use Rattle.low.specs.Numbers.{◌then◌, kind_of as kind, even}
+pub use Rattle.low.specs.Numbers.{Kind}
+use Rattle.high.specs.declared.Answer.{Answer}
 
 -- the record is a struct of the code
-abbrev pub answerOf : ℕ → Answer
-answerOf n = record {
+abbrev pub answer_of : ℕ → Answer
+answer_of n = record {
   double = n then n;
 }
 
 -- stated, and used by nothing else
 pub record AnswerLaw (n : ℕ) : Type 0 where
-  pub kind-is : kind n ≡ even
+  pub kind_is : kind n ≡ even
 ''',
-    "crates/high/specs/PrivateKinds.antt": '''use Rattle·high·specs.specs.Answer.{Kind}
+    "crates/high/specs/PrivateKinds.antt": '''use Rattle.high.specs.Answer.{Kind}
 
 abbrev pub Kinds : Type 0
 Kinds = Kind × Kind
 ''',
-    "crates/high/proofs/AnswerHolds.antt": '''use Rattle·high·specs.specs.Answer.{answerOf, AnswerLaw}
-use Rattle·high·proofs.proofs.Laws.{Small}
+    "crates/high/proofs/AnswerHolds.antt": '''use Rattle.high.specs.Answer.{answer_of, AnswerLaw}
+use Rattle.high.proofs.Laws.{Small}
 
 record Known : Type 0 where
   pub known : AnswerLaw 0
@@ -89,14 +89,14 @@ record Known : Type 0 where
 pub small : Small 0
 small = refl
 
-module _ (n : ℕ) (h : answerOf n ≡ 0) where
-  pub answer-law : (m : ℕ) → m ≡ n
+module _ (n : ℕ) (h : answer_of n ≡ 0) where
+  pub answer_law : (m : ℕ) → m ≡ n
       → AnswerLaw n
-  unfolding answerOf
-  answer-law m e = record { kind-is = refl }
+  unfolding answer_of
+  answer_law m e = record { kind_is = refl }
 ''',
-    "crates/high/src/lib.rt": '''ghost use Rattle·high·specs.specs.Answer.{answerOf};
-ghost use Rattle·high·specs.specs.PrivateKinds.{Kinds};
+    "crates/high/src/lib.rt": '''ghost use Rattle.high.specs.Answer.{answer_of};
+ghost use Rattle.high.specs.PrivateKinds.{Kinds};
 
 pub struct Answer {
     pub double: u8,
@@ -104,17 +104,17 @@ pub struct Answer {
 
 impl Answer {
     pub fn of(n: u8) -> Answer
-        ensures { λ r. ⌜
-            r ≡
-            answerOf n
-        ⌝ }
+        ensures {
+            result ≡
+            answer_of n
+        }
     {
         Answer { double: n }
     }
 }
 
 fn kinds(n: u8)
-    requires { ⌜ Kinds ⌝ }
+    requires { Kinds }
 {
 }
 ''',
@@ -155,34 +155,34 @@ class Faults(unittest.TestCase):
     def test_public_contract_cites_private_definition(self):
         self.assert_wrong(
             ["PrivateSteps.antt: half is for private functions, and must be believed: the contract of twice"],
-            ("crates/low/src/steps.rt", "r ≡ double n", "r ≡ half (double n)"))
+            ("crates/low/src/steps.rt", "result ≡ double n", "result ≡ half (double n)"))
 
     def test_method_cites_private_definition(self):
         self.assert_wrong(
-            ["PrivateKinds.antt: Kinds is for private functions"], ("crates/high/src/lib.rt", "answerOf n\n", "answerOf Kinds\n"))
+            ["PrivateKinds.antt: Kinds is for private functions"], ("crates/high/src/lib.rt", "answer_of n\n", "answer_of Kinds\n"))
 
     def test_requires_counts(self):
         self.assert_wrong(
             ["PrivateSteps.antt: half is for private"],
-            ("crates/low/src/steps.rt", "    ensures", "    requires { ⌜ half n ≡ 1 ⌝ }\n    ensures"))
+            ("crates/low/src/steps.rt", "    ensures", "    requires { half n ≡ 1 }\n    ensures"))
 
     def test_cited_definition_uses_private_one_of_another_crate(self):
         self.assert_wrong(
-            ["PrivateSteps.antt: half is for private functions, and must be believed: crates/high/specs/Answer.antt: answerOf uses it"],
+            ["PrivateSteps.antt: half is for private functions, and must be believed: crates/high/specs/Answer.antt: answer_of uses it"],
             ("crates/high/specs/Answer.antt", "n then n", "n then h n"),
-            ("crates/high/specs/Answer.antt", "use Prim", "use Rattle·low.specs.PrivateSteps.{half as h}\nuse Prim"))
+            ("crates/high/specs/Answer.antt", "use Prim", "use Rattle.low.specs.PrivateSteps.{half as h}\nuse Prim"))
 
     def test_theorem_states_private_definition(self):
         self.assert_wrong(
             ["half is for private functions, and must be believed: crates/high/specs/Answer.antt: AnswerLaw"],
             ("crates/high/specs/Answer.antt", "≡ even", "≡ half even"),
-            ("crates/high/specs/Answer.antt", "use Prim", "use Rattle·low.specs.PrivateSteps.{half}\nuse Prim"))
+            ("crates/high/specs/Answer.antt", "use Prim", "use Rattle.low.specs.PrivateSteps.{half}\nuse Prim"))
 
     def test_theorem_has_private_hypothesis(self):
         self.assert_wrong(
-            ["half is for private functions, and must be believed: the theorem answer-law"],
-            ("crates/high/proofs/AnswerHolds.antt", "answerOf n ≡ 0", "\n    half n ≡ 0"),
-            ("crates/high/proofs/AnswerHolds.antt", "use Rattle·high·s", "use Rattle·low.specs.PrivateSteps.{half}\nuse Rattle·high·s"))
+            ["half is for private functions, and must be believed: the theorem answer_law"],
+            ("crates/high/proofs/AnswerHolds.antt", "answer_of n ≡ 0", "\n    half n ≡ 0"),
+            ("crates/high/proofs/AnswerHolds.antt", "use Rattle.high.s", "use Rattle.low.specs.PrivateSteps.{half}\nuse Rattle.high.s"))
 
     # what needn't be believed stands elsewhere
 
@@ -203,43 +203,43 @@ class Faults(unittest.TestCase):
     def test_name_in_a_comment_is_no_use(self):
         self.assert_wrong(["Numbers.antt: double serves no public"],
                           ("crates/low/specs/Numbers.antt", "a + double b", "a + b -- double"),
-                          ("crates/low/src/steps.rt", "r ≡ double n", "r ≡ n"))
+                          ("crates/low/src/steps.rt", "result ≡ double n", "result ≡ n"))
 
     def test_field_of_the_same_name_is_no_use(self):
         """Both crates' field is named double."""
-        self.assert_wrong(["double serves", "_then_ serves"],
-                          ("crates/high/specs/Answer.antt", "n then n", "n .double"),
-                          ("crates/low/src/steps.rt", "r ≡ double n", "r ≡ n"))
+        self.assert_wrong(["double serves", "◌then◌ serves"],
+                          ("crates/high/specs/Answer.antt", "n then n", "n.double"),
+                          ("crates/low/src/steps.rt", "result ≡ double n", "result ≡ n"))
 
     def test_function_that_is_not_public(self):
-        no_hypothesis = "crates/high/proofs/AnswerHolds.antt", "(h : answerOf n ≡ 0) ", ""
+        no_hypothesis = "crates/high/proofs/AnswerHolds.antt", "(h : answer_of n ≡ 0) ", ""
         for old, new in (("pub fn of", "fn of"), ("pub fn of", "pub(crate) fn of"), ("pub struct Answer", "pub(crate) struct Answer")):
             with self.subTest(new=new):
-                self.assert_wrong(["answerOf serves", "_then_ serves"], no_hypothesis, ("crates/high/src/lib.rt", old, new))
+                self.assert_wrong(["answer_of serves", "◌then◌ serves"], no_hypothesis, ("crates/high/src/lib.rt", old, new))
         program = {path.replace("high/src/lib.rt", "high/src/main.rt"): text for path, text in SMALL.items()}
-        self.assert_wrong(["answerOf serves", "_then_ serves"], no_hypothesis, files=program)
+        self.assert_wrong(["answer_of serves", "◌then◌ serves"], no_hypothesis, files=program)
 
     def test_function_that_is_not_passed_on(self):
-        self.assert_wrong(["double serves", "_then_ serves"], ("crates/low/src/lib.rt", "pub use", "use"),
+        self.assert_wrong(["double serves", "◌then◌ serves"], ("crates/low/src/lib.rt", "pub use", "use"),
                           ("crates/high/specs/Answer.antt", "n then n", "n"))
 
     def test_claim_that_is_not_proved(self):
-        for old, new in (("pub answer-law", "answer-law"), ("→ AnswerLaw n", "→ m ≡ n"), ("→ AnswerLaw n", "→ (AnswerLaw n → ⊥) → ⊥")):
+        for old, new in (("pub answer_law", "answer_law"), ("→ AnswerLaw n", "→ m ≡ n"), ("→ AnswerLaw n", "→ (AnswerLaw n → ⊥) → ⊥")):
             with self.subTest(new=new):
-                self.assert_wrong(["AnswerLaw serves", "Kind serves", "kindOf serves"], ("crates/high/proofs/AnswerHolds.antt", old, new))
+                self.assert_wrong(["AnswerLaw serves", "Kind serves", "kind_of serves"], ("crates/high/proofs/AnswerHolds.antt", old, new))
 
     def test_claim_that_is_proved_in_another_file(self):
         files = {path.replace("AnswerHolds", "OtherHolds"): text for path, text in SMALL.items()}
-        self.assert_wrong(["AnswerLaw serves", "Kind serves", "kindOf serves"], files=files)
+        self.assert_wrong(["AnswerLaw serves", "Kind serves", "kind_of serves"], files=files)
 
     def test_private_definition_that_serves_proofs(self):
         self.assert_wrong(
-            ["PrivateKinds.antt: Kinds serves no contract"], ("crates/high/src/lib.rt", "⌜ Kinds ⌝", "⌜ n ≡ 0 ⌝"))
+            ["PrivateKinds.antt: Kinds serves no contract"], ("crates/high/src/lib.rt", "{ Kinds }", "{ n ≡ 0 }"))
 
     # proofs/ has nothing to be believed
 
     def test_imports_from_proofs(self):
-        for module in ("Rattle·low.proofs.Laws", "Rattle·low·proofs.proofs.Laws"):
+        for module in ("Rattle.low.proofs.Laws", "Rattle.high.proofs.Laws"):
             for path, old, new in (
                     ("crates/high/specs/Answer.antt", "use Prim", f"use {module}.{{small}}\nuse Prim"),
                     ("crates/low/src/lib.rt", "mod steps;", f"ghost use {module}.{{small}};\nmod steps;")):
@@ -247,19 +247,19 @@ class Faults(unittest.TestCase):
                     self.assert_wrong([f"{path}: {module} is imported"], (path, old, new))
 
     def test_theorem_cites_proofs(self):
-        self.assert_wrong(["answer-law in crates/high/proofs/AnswerHolds.antt cites Small"],
+        self.assert_wrong(["answer_law in crates/high/proofs/AnswerHolds.antt cites Small"],
                           ("crates/high/proofs/AnswerHolds.antt", "m ≡ n\n", "Small m\n"))
-        self.assert_wrong(["answer-law in crates/high/proofs/AnswerHolds.antt cites Known"],
-                          ("crates/high/proofs/AnswerHolds.antt", "(h : answerOf n ≡ 0)", "(h : answerOf n ≡ 0) (k : Known)"))
+        self.assert_wrong(["answer_law in crates/high/proofs/AnswerHolds.antt cites Known"],
+                          ("crates/high/proofs/AnswerHolds.antt", "(h : answer_of n ≡ 0)", "(h : answer_of n ≡ 0) (k : Known)"))
 
     # what can't be read is said
 
     def test_unread(self):
         for path, old, new in (
                 ("crates/low/specs/Numbers.antt", "double n = n + n", "double n = (λ double. n) n"),
-                ("crates/low/specs/Numbers.antt", "double n = n + n", "double n = let kindOf = n in n"),
-                ("crates/low/specs/Numbers.antt", "kindOf n = odd", "kindOf double = odd"),
-                ("crates/low/specs/Numbers.antt", "double n = n + n", "double n = Rattle·low.specs.PrivateSteps.half n"),
+                ("crates/low/specs/Numbers.antt", "double n = n + n", "double n = let kind_of = n in n"),
+                ("crates/low/specs/Numbers.antt", "kind_of n = odd", "kind_of double = odd"),
+                ("crates/low/specs/Numbers.antt", "double n = n + n", "double n = Rattle.low.specs.PrivateSteps.half n"),
                 ("crates/low/specs/Numbers.antt", "double n = n + n", "twice n = n + n"),
                 ("crates/low/specs/Numbers.antt", "use Prim", "module _ (n : ℕ) where\nuse Prim"),
                 ("crates/low/specs/PrivateSteps.antt", "use Rattle", "  use Rattle"),
@@ -268,7 +268,7 @@ class Faults(unittest.TestCase):
                 ("crates/low/src/steps.rt", "fn twice(n: u8)", "fn twice(double: u8)"),
                 ("crates/low/src/steps.rt", "fn twice(", "fn twice<T>("),
                 ("crates/low/src/steps.rt", "fn twice(", "const fn twice("),
-                ("crates/low/src/lib.rt", "pub use steps::twice;", "pub use steps::{twice};"),
+                ("crates/low/src/lib.rt", "pub use steps::twice;", "pub use steps::{twice as two};"),
                 ("crates/low/src/lib.rt", "mod steps;", "pub mod steps;"),
                 ("crates/low/src/lib.rt", "steps::twice", "steps::more::twice"),
                 ("crates/low/src/lib.rt", "steps::twice", "steps::thrice"),
@@ -283,7 +283,7 @@ class Faults(unittest.TestCase):
         """With all these files of specs/ renamed, each of their definitions is seen to be in the wrong place."""
         renamed = {
             re.sub(rf"(/specs/){old}(\w+\.antt)", rf"\1{new}\2", path):
-            re.sub(rf"(Rattle·\w+(?:·specs\.specs|\.specs)\.){old}(\w+\.\{{)", rf"\1{new}\2", text) for path, text in REAL.items()}
+            re.sub(rf"(Rattle\.\w+\.specs\.){old}(\w+\.\{{)", rf"\1{new}\2", text) for path, text in REAL.items()}
         wrong = self.wrong(files=renamed)
         definitions = [definition for definition in d.Definitions(renamed, []).all if definition.file.startswith(new)]
         self.assertGreater(len(definitions), 30)

@@ -51,8 +51,8 @@ FALLS = (
 
 HEAD = """\
 -- The worked falls. checker/expectations writes this file, from document 02, item 4; it is never edited by hand.
-use mathlib.Core.List.{List, [], _∷_}
-use Rattle·descent_points·specs.specs.DescentPoint.{DescentPoint, fall, landed, refused}
+use Rattle.std.specs.Prelude.{List, [], ◌∷◌}
+use Rattle.descent_points.specs.DescentPoint.{DescentPoint, fall, landed, refused}
 
 -- Dimension, mass, speed, height, budget; the states after every 200 steps before the end; whether the angle is above 60 degrees, the number of steps and the end
 -- state. Or dimension, mass, speed, height, budget and the refusal. A state is the bits of its three numbers.

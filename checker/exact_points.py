@@ -27,13 +27,13 @@ AIRCRAFT = (
 
 HEAD = """\
 -- The worked points, in lowest terms. checker/expectations writes this file, from document 01; it is never edited by hand.
-use mathlib.Core.List.{List, [], _∷_}
-use Rattle·arithmetic.specs.Fraction.{_over_}
-use Rattle·exact_area·specs.specs.ExactPoint.{ExactPoint, point}
+use Rattle.std.specs.Prelude.{List, [], ◌∷◌}
+use Rattle.arithmetic.specs.Fraction.{◌over◌}
+use Rattle.exact_area.specs.ExactPoint.{ExactPoint, point}
 
 -- dimension, mass, speed; the exact area and the exact column; the sheet's column and flag
-abbrev pub exactPoints : List ExactPoint
-exactPoints =
+abbrev pub exact_points : List ExactPoint
+exact_points =
 """
 
 

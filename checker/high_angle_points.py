@@ -36,9 +36,9 @@ AIRCRAFT = (
 
 HEAD = """\
 -- The worked points. checker/expectations writes this file, from document 02, item 2; it is never edited by hand.
-use mathlib.Core.List.{List, [], _∷_}
-use Rattle·columns.specs.Bracket.{bracket}
-use Rattle·exact_high_angle·specs.specs.HighAnglePoint.{HighAnglePoint, accepted, refused}
+use Rattle.std.specs.Prelude.{List, [], ◌∷◌}
+use Rattle.columns.specs.Bracket.{bracket}
+use Rattle.exact_high_angle.specs.HighAnglePoint.{HighAnglePoint, accepted, refused}
 
 -- dimension, mass, speed; frontal area, joules, factor and area; column, flag and exact column. Or dimension, mass, speed and the refusal.
 abbrev pub points : List HighAnglePoint

@@ -10,7 +10,7 @@ const READ_AT_MOST: usize = case_text::TEXT_LENGTH + 1;
 
 // Fills the buffer, and says how much of it: all, or what came before the input's end. A read that fails ends the input, unless it was
 // a signal that interrupted it.
-fn read_full<R: Read>(input: &mut R, into: &mut [u8]) -> usize
+fn read_full(input: &mut impl Read, into: &mut [u8]) -> usize
     ensures { result ≤ length into.new }
 {
     let mut filled: usize = 0;

@@ -15,9 +15,13 @@ use Rattle.arithmetic.specs.Fraction.{◌over◌}
 use Rattle.arithmetic.proofs.TestLaws.{both}
 use Rattle.fall.specs.Numbers.{decimal, whole}
 use Rattle.fall.specs.Step.{half, next_guess, after_rounds}
-use Rattle.fall.specs.PrivateRounds.{next_twice, in_range}
+use Rattle.fall.specs.PrivateRounds.{in_range}
 use Rattle.fall.proofs.FloatLaws.{is_zero, same_or_zero, zero_made, returned_stays}
 use Rattle.fall.proofs.DoublingLaws.{AtLeast, at_least_positive, add_at_least, half_at_least, quotient, quotient_not_negative, twice}
+
+-- of twice the sum and twice a guess: twice the next guess
+abbrev pub next_twice : Float → Float → Float
+next_twice sum guess = add binary64 (mul binary64 guess half) (div binary64 sum guess)
 
 half_made : half ≡ fin false 1 (negsuc 0)
 unfolding decimal round size span climb units odd count_trailing_zeros

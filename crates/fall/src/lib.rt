@@ -3,7 +3,7 @@
 
 ghost use Rattle.std.specs.Prelude.{◌≡◌};
 ghost use Rattle.fall.specs.Step.{half, next_guess, after_rounds, speed_of, next_state};
-ghost use Rattle.fall.specs.PrivateRounds.{next_twice, in_range};
+ghost use Rattle.fall.specs.PrivateRounds.{in_range};
 ghost use Rattle.std.specs.Float.{binary64};
 ghost use Rattle.std.specs.Float.Ieee.{mul};
 
