@@ -84,7 +84,7 @@ first_worst-column-requires c =
     )
 
 pub overflow_sub-w : goal.overflow_sub-w
-overflow_sub-w c = (known c.args.counts.now c.args.marks.now c.args.area c.requires.0 c.requires.1).key_pos
+overflow_sub-w c = omega (arith, known c.args.counts.now c.args.marks.now c.args.area c.requires.0 c.requires.1)
 
 pub overflow_add-result : goal.overflow_add-result
 overflow_add-result c =
