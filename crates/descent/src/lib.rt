@@ -13,7 +13,7 @@ use frontal_area::{frontal_area, multirotor_refusal};
 // A refusal number, 0 for none. Then whether the angle at the ground is above 60 degrees, 1 or 0; the number of steps; the end state. All
 // zeros where it is refused.
 #[repr(C)]
-#[derive(Drop)]
+#[derive(Clone, Copy)]
 pub struct Descent {
     pub refusal: u8,
     pub above_60: u8,

@@ -136,7 +136,7 @@ fn speed_of_two(s: Fall, t: Fall) -> Two
     )
 }
 
-#[derive(Drop)]
+#[derive(Clone, Copy)]
 pub struct TwoFalls {
     pub first: Fall,
     pub second: Fall,

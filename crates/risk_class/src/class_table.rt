@@ -21,7 +21,7 @@ const CLASSES: [[u8; 5]; 7] = [
 ];
 
 #[repr(C)]
-#[derive(Drop)]
+#[derive(Clone, Copy)]
 pub struct IntrinsicClass {
     pub refusal: u8,
     pub class: u8,

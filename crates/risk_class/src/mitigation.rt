@@ -22,7 +22,7 @@ const CREDITS: [[u8; 4]; 4] = [
 const HIGHEST_FINAL: i8 = 7;
 
 #[repr(C)]
-#[derive(Drop)]
+#[derive(Clone, Copy)]
 pub struct FinalClass {
     pub refusal: u8,
     pub class: i8,
