@@ -1,16 +1,15 @@
 -- The worked falls, by computation.
 use mathlib.Core.Path.{◌≡◌, refl, ap, subst, ◌∙◌}
-use mathlib.Core.Bool.{true, false}
-use mathlib.Core.List.{List, [], ◌∷◌, ◌++◌, map, take, drop}
-use Prim.Native.Nat.{ℕ}
+use mathlib.Core.Bool.{false}
+use mathlib.Core.List.{List, [], ◌∷◌, map, take, drop}
 use lib.Count.{count_trailing_zeros}
-use lib.Ieee.{Float, binary64, of_bits, of_int, add, sub, mul, div, lt, le, eq, round, size, span, climb, units, odd, sum, neg, of_fields}
+use lib.Ieee.{Float, of_bits, of_int, add, sub, mul, div, lt, le, eq, round, size, span, climb, units, odd, sum, neg, of_fields}
 use Rattle.arithmetic.specs.Each.{Each}
 use Rattle.arithmetic.proofs.EachLaws.{each_append, each_equal}
 use Rattle.frontal_area.specs.FrontalArea.{frontal_area_of}
 use Rattle.fall.specs.Numbers.{decimal, divided_by, in_metres}
 use Rattle.fall.specs.Step.{drag_factor_of, state_after}
-use Rattle.descent.specs.Descent.{body_of, first_state, descent_of}
+use Rattle.descent.specs.Descent.{body_of, first_state}
 use Rattle.fall.specs.declared.Fall.{Fall}
 use Rattle.descent.specs.declared.Descent.{Descent}
 use Rattle.fall.specs.declared.Body.{Body}
