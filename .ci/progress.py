@@ -14,10 +14,11 @@ from pathlib import Path
 # rt's line for a step that is done, what it is, and what of the line is shown.
 STEPS = (
     ("wrong program", re.compile(r"rt: must-fail (\S+: .*)")),
-    ("program", re.compile(r"rt: (\S+ (?:ran|proved, and its run FAILED).*)")),
-    ("crate", re.compile(r"rt: (\S+ (?:proved|NOT PROVED).*)")),
+    ("program", re.compile(r"rt: (\S+ ran(?: |,).*)")),
+    ("crate", re.compile(r"rt: (\S+ (?:proved|is kept|NOT PROVED).*)")),
 )
-LEFT_OUT = re.compile(r"(fn|struct) \S+: proved$|logic /|library \S+: modules |logic=proved |linked |(\S.*: )?note: ")
+LEFT_OUT = re.compile(r"(fn|struct|impl) \S.*: proved$|== \S+$|empty contracts: 0 found|logic /|(library|crate|statements) \S+: modules |logic=proved "
+                      r"|linked |rt: \S+: trying its must-fail edits|rt: chose |(\S.*: )?note: ")
 
 
 def totals(root):
