@@ -59,7 +59,7 @@ pub const REFUSAL_LENGTH: usize = LOW + 1;
 
 // The fields of a printed frame. Of a number that is longer than its field, the last digits are printed.
 #[repr(C)]
-#[derive(Drop)]
+#[derive(Clone, Copy)]
 pub struct FrameFields {
     pub low: u64,
     pub high: u64,
