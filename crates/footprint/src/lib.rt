@@ -44,7 +44,7 @@ impl Footprint {
 // The answer from a walk over a whole map that isn't refused.
 fn accepted(counts: &[u32], marks: &[u64], area: u32, w: MapWalk) -> Footprint
     requires { (first_refusal (map_tests (record { counts = counts.now; cell_area = area }) marks.now) ≡ 0) × (w ≡ map_walk counts.now marks.now map_rows) }
-    ensures { result ≡ accepted_footprint (record { counts = counts.entry.now; cell_area = area }) marks.now }
+    ensures { result ≡ accepted_footprint (record { counts = counts.now; cell_area = area }) marks.now }
 {
     let r = w.row;
     let from = MAP_COLUMNS * r;
@@ -61,7 +61,7 @@ fn accepted(counts: &[u32], marks: &[u64], area: u32, w: MapWalk) -> Footprint
 
 // The footprint on the map, or its refusal.
 pub fn footprint_on_map(counts: &[u32], marks: &[u64], area: u32) -> Footprint
-    ensures { result ≡ footprint_of (record { counts = counts.entry.now; cell_area = area }) marks.now }
+    ensures { result ≡ footprint_of (record { counts = counts.now; cell_area = area }) marks.now }
 {
     let refusal = map_refusal(counts, marks, area);
     if refusal != 0 {

@@ -22,7 +22,7 @@ pub(crate) struct RowWalk {
 }
 
 // Every fourth cell of a map row: the people of the marked ones, and 1 where one of their counts is above a limit, else 0.
-#[derive(Drop)]
+#[derive(Clone, Copy)]
 struct Lane {
     people: u32,
     above: u32,

@@ -9,7 +9,7 @@ use crate::row::{RowWalk, walk_row};
 use map::{MAP_COLUMNS, MAP_ROWS};
 
 // The map rows so far: the first worst row, and its largest key.
-#[derive(Drop)]
+#[derive(Clone, Copy)]
 pub(crate) struct MapWalk {
     pub worst: u32,
     pub row: usize,

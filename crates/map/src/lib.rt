@@ -31,7 +31,7 @@ pub const LARGEST_AREA: u32 = 25000000;
 
 // The first of refusals 5 to 8, of a map and the marks on it, or 0.
 pub fn map_refusal(counts: &[u32], marks: &[u64], area: u32) -> u8
-    ensures { result ≡ first_refusal (map_tests (record { counts = counts.entry.now; cell_area = area }) marks.now) }
+    ensures { result ≡ first_refusal (map_tests (record { counts = counts.now; cell_area = area }) marks.now) }
 {
     if (counts.len() != MAP_CELLS) | (marks.len() != MAP_ROWS) {
         return 5;

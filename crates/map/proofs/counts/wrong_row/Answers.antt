@@ -1,4 +1,3 @@
--- `map::counts::wrong_row` meets its contract: no count is larger than the bitwise or, which has no more bits than the counts.
 use mathlib.Core.Path.{◌≡◌, refl, sym, ap, ◌∙◌}
 use mathlib.Core.Bool.{Bool, true, false}
 use mathlib.Core.List.{List}
@@ -12,8 +11,9 @@ use Rattle.map.specs.Size.{map_columns}
 use Rattle.map.specs.Map.{largest_count, count_at}
 use Rattle.map.specs.Refusals.{above_range}
 use Rattle.map.specs.PrivateCounts.{wrong_row, raised, row_or}
-use Rattle.map.proofs.counts.wrong_row.Statement.{statement}
-use Rattle.map.proofs.counts.wrong_row.Tie as tie
+use Rattle.map.proofs.counts.wrong_row.Goals as goal
+
+-- `map::counts::wrong_row` meets its contract: no count is larger than the bitwise or, which has no more bits than the counts.
 
 module _ (counts : List ℕ) (raise : ℕ) where
   raised_le : (i : ℕ) → i < map_columns → raised counts raise i ≤ row_or counts raise
@@ -41,24 +41,20 @@ module _ (counts : List ℕ) (raise : ℕ) where
       by_test true e = sym (some_above (omega arith) (leb-true (2 ^ 20) (row_or counts raise) e))
       by_test false e = sym (none_above (omega (arith, leb-false (2 ^ 20) (row_or counts raise) e)))
 
-row-or-requires : tie.Need-row-or-requires
-row-or-requires c κs = (c.before.requires, λ i l. omega (arith, c.shared-slice-known.given i))
+pub row_or-all-requires : goal.row_or-all-requires
+row_or-all-requires c = (c.requires, λ i l. omega (arith, c.type_inv.counts i))
 
-returns : tie.Need-returns
-returns c = sym (none_above c.before.before.before.args.counts.now 0 (omega arith))
+pub returns-then-all-le-LARGEST_COUNT : goal.returns-then-all-le-LARGEST_COUNT
+returns-then-all-le-LARGEST_COUNT c = sym (none_above c.args.counts.now 0 (omega arith))
 
-returns-2 : tie.Need-returns-2
-returns-2 c = sym (some_above c.before.before.before.before.args.counts.now 0 (omega arith) (omega arith))
+pub returns-then-all-ge-FIRST_OF_21_BITS : goal.returns-then-all-ge-FIRST_OF_21_BITS
+returns-then-all-ge-FIRST_OF_21_BITS c = sym (some_above c.args.counts.now 0 (omega arith) (omega arith))
 
-row-or-requires-2 : tie.Need-row-or-requires-2
-row-or-requires-2 c κs =
-    let start = c.before.before.before.before in
-    (start.requires, λ i l. omega (arith, raised_le start.args.counts.now 0 i l))
+pub row_or-requires : goal.row_or-requires
+row_or-requires c =
+    (c.requires, λ i l. omega (arith, raised_le c.args.counts.now 0 i l))
 
-returns-3 : tie.Need-returns-3
-returns-3 c =
-    ap (leb (2 ^ 20)) c.row-or2.ensures
-    ∙ raised_tells c.before.before.before.before.before.args.counts.now _ refl
-
-pub wrong_row_spec : {M : Type 1} → statement M
-wrong_row_spec = tie.close (tie.spec row-or-requires returns returns-2 row-or-requires-2 returns-3)
+pub returns : goal.returns
+returns c =
+    ap (leb (2 ^ 20)) c.row_or.ensures
+    ∙ raised_tells c.args.counts.now _ refl
