@@ -10,7 +10,7 @@ use lib.ListN.{length, take, drop, length-append, length-drop}
 use lib.Seq.{take_at, drop_at}
 use borrow.Author.Tests.{le-ltb, ne_eqb, eqb-true, ltb-false}
 use Rattle.arithmetic.proofs.PartLaws.{PartIs, whole_part, part_whole, part_left, parts_joined}
-use Rattle.hex_text.specs.Digits.{field, digits, written, is_line, line_end}
+use Rattle.hex_text.specs.Digits.{field, written, is_line, line_end}
 use Rattle.hex_text.proofs.DigitLaws.{length_digits}
 use Rattle.hex_text.proofs.LineLaws.{line_at}
 use Rattle.hex_text.proofs.FieldLaws.{length_written, fields_read, fields_are}

@@ -132,6 +132,7 @@ fn write_refusal_line(buffer: &mut [u8], refusal: u8)
 }
 
 // Writes a refusal at the start of the lent buffer. The answer is 15 where the buffer is too short, and 0 else.
+#[tactic(auto, using(crate::proofs::WaysOut::not_written, crate::proofs::WaysOut::written_left, crate::proofs::WaysOut::written_answers))]
 pub fn write_refusal(refusal: u8, buffer: &mut [u8]) -> u8
     ensures { WritingContract (refusal_line refusal) buffer.old result buffer.new }
 {
@@ -144,6 +145,7 @@ pub fn write_refusal(refusal: u8, buffer: &mut [u8]) -> u8
 
 // Writes the frame at the start of the lent buffer, or the refusal where there is one.
 // The answer is 15 where the buffer is too short, and 0 else.
+#[tactic(auto, using(crate::proofs::WaysOut::not_written))]
 pub fn write_frame(refusal: u8, fields: FrameFields, buffer: &mut [u8]) -> u8
     ensures { WritingContract (printed refusal fields) buffer.old result buffer.new }
 {

@@ -1,4 +1,3 @@
--- `frame::class_byte` meets its contract.
 use mathlib.Core.Path.{◌≡◌, refl, ap}
 use mathlib.Core.Bool.{Bool, true, false}
 use Prim.Native.Nat.{ℕ}
@@ -11,8 +10,7 @@ use mir.Val.{SFits, Fits}
 use mir.ValLaws.{to_z-of_z}
 use borrow.Author.Tests.{ltb-true}
 use Rattle.frame.specs.Frame.{class_byte}
-use Rattle.frame.proofs.class_byte.Statement.{statement}
-use Rattle.frame.proofs.class_byte.Tie as tie
+use Rattle.frame.proofs.class_byte.Goals as goal
 
 below : (z : ℤ) → lt_z z (pos 0) ≡ true → ◌≡◌ {A = ℕ} 255 (class_byte z)
 below (pos n) e = absurd (omega (arith, ltb-true n 0 e))
@@ -34,23 +32,14 @@ same (negsuc n) e = absurd (omega (arith, ap one_of e))
     one_of true = 1
     one_of false = 0
 
-cast-result : tie.Need-overflow-cast-result
-cast-result c =
-    let z = c.before.args.c in
-    let f = c.before.ranges.c in
-    rw (to_z-of_z w8 z f) (above z f (rw (to_z-of_z w8 z f) at c.if1.false))
+pub overflow_cast-result : goal.overflow_cast-result
+overflow_cast-result c =
+    rw (to_z-of_z w8 c.args.c c.ranges.c) (above c.args.c c.ranges.c (rw (to_z-of_z w8 c.args.c c.ranges.c) at c.if-c-lt0.false))
 
-returns : tie.Need-returns
-returns c =
-    let z = c.before.args.c in
-    let f = c.before.ranges.c in
-    below z (rw (to_z-of_z w8 z f) at c.if1.true)
+pub returns-then-c-lt0 : goal.returns-then-c-lt0
+returns-then-c-lt0 c =
+    below c.args.c (rw (to_z-of_z w8 c.args.c c.ranges.c) at c.if-c-lt0.true)
 
-returns-2 : tie.Need-returns-2
-returns-2 c =
-    let z = c.before.args.c in
-    let f = c.before.ranges.c in
-    rw (to_z-of_z w8 z f) (same z (rw (to_z-of_z w8 z f) at c.if1.false))
-
-pub class_byte_spec : {M : Type 1} → statement M
-class_byte_spec = tie.close (tie.spec cast-result returns returns-2)
+pub returns-else-c-lt0 : goal.returns-else-c-lt0
+returns-else-c-lt0 c =
+    rw (to_z-of_z w8 c.args.c c.ranges.c) (same c.args.c (rw (to_z-of_z w8 c.args.c c.ranges.c) at c.if-c-lt0.false))
