@@ -22,10 +22,10 @@ use case_text::{COUNTS_LENGTH, MARKS_LENGTH, TEXT_LENGTH};
 use frame::{FRAME_LENGTH, REFUSAL_LENGTH};
 use ground_risk_case::print_case;
 use kinds::of_kind;
-use libc::STDOUT_FILENO;
 use parts::RandomCase;
 use plain::plain_case;
 use random::source_of;
+use std::io;
 use text::write_text;
 use text_kinds::LONGER_FRAMES;
 
@@ -56,26 +56,27 @@ fn at_most(n: u64, most: usize) -> usize
     if n as usize <= most { n as usize } else { most }
 }
 
-fn write_line(refusal: u8, frame: &[u8])
+fn write_line(rt: &impl Print, refusal: u8, frame: &[u8]) -> io::Result<()>
     requires { length frame.now ≡ frame_room }
 {
     if refusal == 0 {
-        io::write_all(STDOUT_FILENO, &frame[..FRAME_LENGTH]);
+        rt.write_all(&frame[..FRAME_LENGTH])
     } else if refusal == BUFFER_TOO_SHORT {
-        io::write_all(STDOUT_FILENO, &BUFFER_TOO_SHORT_LINE);
+        rt.write_all(&BUFFER_TOO_SHORT_LINE)
     } else {
-        io::write_all(STDOUT_FILENO, &frame[..REFUSAL_LENGTH]);
+        rt.write_all(&frame[..REFUSAL_LENGTH])
     }
 }
 
 // Writes the line of case number n. What the buffers hold before makes no difference.
 fn print_random_case(
+    rt: &impl Print,
     n: u32,
     text: &mut [u8],
     counts: &mut [u32],
     marks: &mut [u64],
     frame: &mut [u8],
-)
+) -> io::Result<()>
     requires text_len { length text.old ≡ text_room }
     requires counts_len { length counts.old ≡ counts_room }
     requires marks_len { length marks.old ≡ footprint_room }
@@ -93,17 +94,19 @@ fn print_random_case(
         &mut marks[..m],
         &mut frame[..f],
     );
-    write_line(refusal, frame);
+    write_line(rt, refusal, frame)
 }
 
-fn main() {
+// A write that fails ends the program with its error.
+fn main(rt: HostRuntime) -> io::Result<()> {
     let mut text = [0u8; TEXT_ROOM];
     let mut counts = [0u32; COUNTS_ROOM];
     let mut marks = [0u64; MARKS_ROOM];
     let mut frame = [0u8; FRAME_ROOM];
     let mut n = 0;
     while n < CASES {
-        print_random_case(n, &mut text, &mut counts, &mut marks, &mut frame);
+        print_random_case(&rt, n, &mut text, &mut counts, &mut marks, &mut frame)?;
         n += 1;
     }
+    Ok(())
 }

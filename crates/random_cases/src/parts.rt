@@ -1,6 +1,6 @@
 // What a random case holds.
 
-#[derive(Drop)]
+#[derive(Clone, Copy)]
 pub(crate) struct RandomCase {
     // the source after the draws that made the rest
     pub(crate) source: u32,

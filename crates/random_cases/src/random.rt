@@ -4,7 +4,7 @@ ghost use Rattle.std.specs.Prelude.{◌<◌};
 use arithmetic::difference_or_zero;
 
 // A draw, and the state of the source after it.
-#[derive(Drop)]
+#[derive(Clone, Copy)]
 pub(crate) struct Draw {
     pub(crate) value: u64,
     pub(crate) next: u32,
