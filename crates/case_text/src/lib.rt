@@ -20,7 +20,7 @@ pub const MARKS_LENGTH: usize = map::MAP_ROWS;
 
 // Line 1 of a case text.
 #[repr(C)]
-#[derive(Drop)]
+#[derive(Clone, Copy)]
 pub struct CaseHead {
     pub dimension: u32,
     pub mass: u32,
@@ -32,7 +32,7 @@ pub struct CaseHead {
 
 // What a reading answers: the refusal number, 0 where there is none, and line 1, all zeros where it is refused.
 #[repr(C)]
-#[derive(Drop)]
+#[derive(Clone, Copy)]
 pub struct Reading {
     pub refusal: u8,
     pub head: CaseHead,
@@ -53,9 +53,10 @@ fn no_head() -> CaseHead
 }
 
 // Reads a case text into the lent map buffers. All bytes are tested before any is stored.
+#[tactic(auto, using(crate::proofs::ReadingLaws::refused_answer, crate::proofs::ReadingLaws::refused_left))]
 pub fn read_case(text: &[u8], counts: &mut [u32], marks: &mut [u64]) -> Reading
-    ensures { ReadingContract text.now (record { counts = counts.entry.now; marks = marks.old }) result
-        (record { counts = counts.exit.now; marks = marks.new }) }
+    ensures { ReadingContract text.now (record { counts = counts.old; marks = marks.old }) result
+        (record { counts = counts.new; marks = marks.new }) }
 {
     let refusal = reading_refusal(text, counts, marks);
     if refusal != 0 {
