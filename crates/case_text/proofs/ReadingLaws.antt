@@ -47,6 +47,15 @@ module _ (t : List ℕ) (lent : MapBuffers) where
   unfolding reading_refusal
   accepted_none a = simp (a.text_long, a.buffers.counts_length, a.buffers.marks_length, a.text)
 
+  -- what is answered and what is left where it is refused, each by itself, so that a function whose attribute names them needs no answer
+  pub refused_answer : (reading_refusal t lent ≡ 0 → ⊥) → reading_of t lent ≡ refused_reading (reading_refusal t lent)
+  unfolding reading_refusal reading_of
+  refused_answer some = sym (refused_by (accepted_reading t) refused_reading (reading_tests t lent) refl refl some)
+
+  pub refused_left : (reading_refusal t lent ≡ 0 → ⊥) → map_buffers_left t lent ≡ lent
+  unfolding reading_refusal map_buffers_left
+  refused_left some = sym (refused_by (map_buffers_of t) (λ _. lent) (reading_tests t lent) refl refl some)
+
   -- what is answered and left, from the refusal number
   module _ {n : ℕ} (is : n ≡ reading_refusal t lent) where
     pub reading_refused : (n ≡ 0 → ⊥) → {h : CaseHead} → h ≡ no_head → ReadingContract t lent (record { refusal = n; head = h }) lent

@@ -1,5 +1,5 @@
 -- The reading of a case text: what its bytes say, what is refused, and what the lent buffers hold afterwards.
-use Rattle.std.specs.Prelude.{ℕ, ◌≡◌, Bool, not, ◌||◌, List, [], ◌∷◌, eqb, length, get_or}
+use Rattle.std.specs.Prelude.{ℕ, ◌≡◌, Bool, not, List, [], ◌∷◌, eqb, length, get_or}
 use Rattle.arithmetic.specs.Refusals.{Test, ◌when◌, first_refusal, answered}
 use Rattle.map.specs.Refusals.{wrong_lengths}
 use Rattle.hex_text.specs.Blocks.{are_blocks, values_at}

@@ -53,9 +53,10 @@ fn no_head() -> CaseHead
 }
 
 // Reads a case text into the lent map buffers. All bytes are tested before any is stored.
+#[tactic(auto, using(crate::proofs::ReadingLaws::refused_answer, crate::proofs::ReadingLaws::refused_left))]
 pub fn read_case(text: &[u8], counts: &mut [u32], marks: &mut [u64]) -> Reading
-    ensures { ReadingContract text.now (record { counts = counts.entry.now; marks = marks.old }) result
-        (record { counts = counts.exit.now; marks = marks.new }) }
+    ensures { ReadingContract text.now (record { counts = counts.old; marks = marks.old }) result
+        (record { counts = counts.new; marks = marks.new }) }
 {
     let refusal = reading_refusal(text, counts, marks);
     if refusal != 0 {

@@ -18,7 +18,7 @@ fn is_text(text: &[u8]) -> bool
 
 // The refusals in their order.
 pub(crate) fn reading_refusal(text: &[u8], counts: &[u32], marks: &[u64]) -> u8
-    ensures { result ≡ reading_refusal text.now (record { counts = counts.entry.now; marks = marks.now }) }
+    ensures { result ≡ reading_refusal text.now (record { counts = counts.now; marks = marks.now }) }
 {
     let wrong_length = text.len() != TEXT_LENGTH;
     let wrong_buffers = (counts.len() != MAP_CELLS) | (marks.len() != MAP_ROWS);
