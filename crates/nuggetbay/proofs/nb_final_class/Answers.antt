@@ -1,0 +1,5 @@
+use borrow.Author.Rules.{rules}
+use Rattle.nuggetbay.proofs.nb_final_class.Goals as goal
+
+pub returns : goal.returns
+returns c = c.final_class.ensures

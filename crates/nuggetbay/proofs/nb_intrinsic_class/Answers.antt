@@ -1,0 +1,5 @@
+use borrow.Author.Rules.{rules}
+use Rattle.nuggetbay.proofs.nb_intrinsic_class.Goals as goal
+
+pub returns : goal.returns
+returns c = c.intrinsic_class.ensures

@@ -1,0 +1,7 @@
+use borrow.Author.Rules.{rules}
+use Rattle.sheet.proofs.LinesMade.{with_own_size_column}
+use Rattle.nuggetbay.proofs.nb_sheet.Goals as goal
+
+pub returns : goal.returns
+returns c =
+    with_own_size_column c.args.dimension c.args.mass c.args.speed c.size_column-size.ensures c.sheet_with_size_column.ensures

@@ -1,0 +1,11 @@
+use Prim.Native.Nat.{◌+◌}
+use native.Mathlib.Nat.{mod-le}
+use borrow.Author.Rules.{rules}
+use native.Mathlib.Omega.{arith}
+use Rattle.random_cases.proofs.random.from_to.Goals as goal
+
+pub overflow_add-result : goal.overflow_add-result
+overflow_add-result c = omega (arith, mod-le c.bits_32-bits.result.value (c.difference_or_zero-many.result + 1))
+
+pub returns : goal.returns
+returns c = omega (arith, mod-le c.bits_32-bits.result.value (c.difference_or_zero-many.result + 1))
