@@ -1,0 +1,11 @@
+use mathlib.Core.Path.{◌≡◌}
+use mir.Syntax.{w8}
+use mir.Val.{of_z, to_z}
+use mir.ValLaws.{to_z-of_z}
+use Rattle.ground_risk_case.proofs.printed_fields.Goals as goal
+
+-- `printed_fields` gives the printed fields of an assessment: the final class is an i8 already.
+
+pub returns : goal.returns
+returns c =
+    let last : to_z w8 (of_z w8 c.args.a.final_class) ≡ c.args.a.final_class = to_z-of_z w8 c.args.a.final_class (search) in rw last
