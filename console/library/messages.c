@@ -1,4 +1,4 @@
-/* What the library says in words, and its version: C, since the proved language has no strings. No figure rests on it. */
+/* What the library says in words, and its version, in C. No figure rests on it. */
 #include <nuggetbay.h>
 
 uint32_t nb_version(void) { return NB_VERSION; }

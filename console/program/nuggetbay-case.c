@@ -1,5 +1,5 @@
 /* nuggetbay-case: reads a case text from standard input and prints its frame, as the proved program `case` does, and says by its
- * status how it went, which a proved program can't. All that is computed is computed by nb_case. */
+ * status how it went, which that one doesn't. All that is computed is computed by nb_case. */
 #include <errno.h>
 #include <nuggetbay.h>
 #include <signal.h>

@@ -47,7 +47,7 @@ def without_comments(text):
 
 REPR_C_STRUCT = re.compile(r"#\[repr\(C\)\]\s*(?:#\[[^\]]*\]\s*)*pub struct (\w+)\s*\{([^{}]*)\}")
 FIELD = r"(\w+)\s*:\s*([^,{}]+?)\s*(?:,|$)"
-EXPORTED = re.compile(r'#\[no_mangle\]\s*(?:#\[[^\]]*\]\s*)*pub extern "C" fn (\w+)\s*\(([^()]*)\)\s*(?:->\s*(\w+))?')
+EXPORTED = re.compile(r'#\[unsafe\(no_mangle\)\]\s*(?:#\[[^\]]*\]\s*)*pub extern "C" fn (\w+)\s*\(([^()]*)\)\s*(?:->\s*(\w+))?')
 IMPORTED = re.compile(r"\bfn (\w+)\s*\(([^()]*)\)\s*(?:->\s*(\w+))?\s*;")
 
 

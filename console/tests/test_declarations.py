@@ -33,14 +33,14 @@ struct Private {
 '''
 EXPORTS = '''
 // Reads and writes.
-#[no_mangle]
+#[unsafe(no_mangle)]
 pub extern "C" fn nb_walk(size: u32, counts: &[u32], marks: &mut [u64], class: u8) -> LongAnswer
-    ensures { λ r. ⌜ r ≡ walked size (now (counts .entry)) ⌝ }
+    ensures { result ≡ walked size counts.now }
 {
     walk(size, counts, marks, class)
 }
 
-#[no_mangle]
+#[unsafe(no_mangle)]
 pub extern "C" fn nb_write(
     fields: Pair,
     frame: &mut [u8],
@@ -208,12 +208,12 @@ class StructsAndFunctionsTest(unittest.TestCase):
         self.in_rattle("#[repr(C)]\npub struct Pair", "pub struct Pair", "neither a number nor a #[repr(C)] struct")
         self.in_rattle("#[repr(C)]\npub struct Pair", "#[repr(C)]\npub enum Pair", "isn't a struct of named fields")
         self.in_rattle("#[repr(C)]\npub struct Pair", "#[repr(C, packed)]\npub struct Pair", "isn't a struct of named fields")
-        self.in_rattle('#[no_mangle]\npub extern "C" fn nb_walk', '#[no_mangle]\npub fn nb_walk', "an exported function that can't be read")
-        self.in_rattle('#[no_mangle]\npub extern "C" fn nb_walk', 'pub extern "C" fn nb_walk', "an exported function that can't be read")
+        self.in_rattle('#[unsafe(no_mangle)]\npub extern "C" fn nb_walk', '#[unsafe(no_mangle)]\npub fn nb_walk', "an exported function that can't be read")
+        self.in_rattle('#[unsafe(no_mangle)]\npub extern "C" fn nb_walk', 'pub extern "C" fn nb_walk', "an exported function that can't be read")
         self.in_rattle("    pub share: f64,\n", "    pub share: f32,\n", "LongAnswer: share is f32, which is neither")
         self.in_rattle("frame: &mut [u8],", "frame: &mut [Private],", "neither a number nor a #[repr(C)] struct")
         for new, words in (("#[repr(C)]\npub struct More {\n    pub a: u8,\n}\n", "(structs) has no More"),
-                           ('#[no_mangle]\npub extern "C" fn nb_more(a: u8) -> u8 {\n    a\n}\n', "(functions) has no nb_more"),
+                           ('#[unsafe(no_mangle)]\npub extern "C" fn nb_more(a: u8) -> u8 {\n    a\n}\n', "(functions) has no nb_more"),
                            ("#[repr(C)]\npub struct Pair {\n    pub a: u8,\n}\n", "a second struct Pair")):
             self.differs(SMALL._replace(rattle=SMALL.rattle | {"crates/more/src/deep/more.rt": new}), words)
         self.differs(SMALL._replace(rattle={}), "nothing was read")
