@@ -1,4 +1,3 @@
-use borrow.Author.Rules.{rules}
 use Rattle.nuggetbay.proofs.nb_assess.Goals as goal
 
 pub returns : goal.returns

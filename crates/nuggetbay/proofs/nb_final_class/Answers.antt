@@ -1,4 +1,3 @@
-use borrow.Author.Rules.{rules}
 use Rattle.nuggetbay.proofs.nb_final_class.Goals as goal
 
 pub returns : goal.returns

@@ -1,4 +1,3 @@
-use borrow.Author.Rules.{rules}
 use Rattle.sheet.proofs.LinesMade.{with_own_size_column}
 use Rattle.nuggetbay.proofs.nb_sheet.Goals as goal
 

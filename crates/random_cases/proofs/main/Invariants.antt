@@ -2,7 +2,6 @@ use Prim.Native.Nat.{◌≤◌, ◌-◌}
 use mathlib.Core.Path.{◌≡◌}
 use lib.ListN.{length}
 use Rattle.random_cases.specs.PrivateBuffers.{text_room, counts_room, footprint_room, frame_room}
-use borrow.Author.Rules.{rules}
 use Rattle.random_cases.proofs.main.Given as goal
 
 -- The buffers keep the lengths that a case needs.

@@ -1,5 +1,4 @@
 use native.Mathlib.Nat.{mul-le-mul_left}
-use borrow.Author.Rules.{rules}
 use native.Mathlib.Omega.{arith}
 use Rattle.random_cases.proofs.map_kinds.people_at.Goals as goal
 

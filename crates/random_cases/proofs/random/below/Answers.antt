@@ -1,6 +1,5 @@
 use native.Mathlib.Nat.{lt_of_le_of_lt, mod-lt, mod-le}
 use native.Mathlib.Omega.{arith}
-use borrow.Author.Rules.{rules}
 use Rattle.random_cases.proofs.random.below.Goals as goal
 
 pub returns : goal.returns

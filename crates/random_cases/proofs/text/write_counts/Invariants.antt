@@ -2,7 +2,6 @@ use Prim.Native.Nat.{◌≤◌, ◌-◌}
 use mathlib.Core.Path.{◌≡◌}
 use lib.ListN.{length}
 use Rattle.random_cases.specs.PrivateBuffers.{map_cells, text_room}
-use borrow.Author.Rules.{rules}
 use Rattle.random_cases.proofs.text.write_counts.Given as goal
 
 -- The text keeps its length while its counts are written.

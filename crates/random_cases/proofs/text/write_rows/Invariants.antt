@@ -2,7 +2,6 @@ use Prim.Native.Nat.{◌≤◌, ◌-◌}
 use mathlib.Core.Path.{◌≡◌}
 use lib.ListN.{length}
 use Rattle.random_cases.specs.PrivateBuffers.{map_rows, text_room}
-use borrow.Author.Rules.{rules}
 use Rattle.random_cases.proofs.text.write_rows.Given as goal
 
 -- Each footprint line is within the text, which keeps its length.
