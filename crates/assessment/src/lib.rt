@@ -52,7 +52,7 @@ pub fn assess(
       dimension = dimension;
       mass = mass;
       speed = speed;
-      map = record { counts = counts.entry.now; cell_area = cell_area };
+      map = record { counts = counts.now; cell_area = cell_area };
       marks = marks.now;
       controlled = controlled;
       word = word;

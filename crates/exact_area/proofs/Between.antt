@@ -8,8 +8,9 @@ use Rattle.sheet.specs.Sheet.{lines_of}
 use Rattle.sheet.proofs.FormulaLaws.{denominator_pos}
 use Rattle.sheet.proofs.LineLaws.{run_rounded_down, run_rounded_up, saving_rounded_down, saving_rounded_up, area_num_at, area_rounded_down, area_rounded_up}
 use Rattle.exact_area.specs.ExactArea.{exact_glide, speed_term, mass_term, friction, exact_slide, half_width, whole_area, exact_by, exact_area}
-use Rattle.arithmetic.proofs.FractionLaws.{refl_le, trans_le, plus_mono, times_mono, divided_mono, minus_mono}
+use Rattle.arithmetic.proofs.FractionLaws.{refl_le, trans_le, times_mono, divided_mono, minus_mono}
 use Rattle.arithmetic.proofs.RoundingLaws.{rate}
+use Rattle.exact_area.proofs.AreaMono.{area_mono}
 
 -- a length of the sheet, in micrometres
 abbrev micro : ℕ → Fraction
@@ -89,24 +90,6 @@ width_from w = omega arith
 width_to : (w : ℕ) → half_width w ⊑ full_width w over 2000
 unfolding half_width plus divided
 width_to w = omega arith
-
-whole_mono : (d g s d' g' s' : Fraction) → d ⊑ d' → g ⊑ g' → s ⊑ s' → whole_area d g s ⊑ whole_area d' g' s'
-unfolding whole_area
-whole_mono d g s d' g' s' hd hg hs =
-    plus_mono _ _ _ _
-    (times_mono _ _ _ _ (times_mono (2 over 1) d (2 over 1) d' (refl_le (2 over 1)) hd) (plus_mono g s g' s' hg hs))
-    (times_mono (314 over 100) _ (314 over 100) _ (refl_le (314 over 100)) (times_mono d d d' d' hd hd))
-
--- the area goes with the dimension, the glide and the slide
-pub area_mono : (f : Formula) (d g s d' g' s' : Fraction) → d ⊑ d' → g ⊑ g' → s ⊑ s' → exact_by f d g s ⊑ exact_by f d' g' s'
-unfolding exact_by
-area_mono whole d g s d' g' s' hd hg hs = whole_mono d g s d' g' s' hd hg hs
-area_mono six_tenths d g s d' g' s' hd hg hs =
-    times_mono (6 over 10) _ (6 over 10) _ (refl_le (6 over 10)) (whole_mono d g s d' g' s' hd hg hs)
-area_mono glide_only d g s d' g' s' hd hg hs =
-    plus_mono _ _ _ _ (times_mono _ _ _ _ (times_mono (2 over 1) d (2 over 1) d' (refl_le (2 over 1)) hd) hg)
-    (times_mono (1 over 2) _ (1 over 2) _ (refl_le (1 over 2))
-    (times_mono (314 over 100) _ (314 over 100) _ (refl_le (314 over 100)) (times_mono d d d' d' hd hd)))
 
 -- line 6 before it is rounded is the area's formula at lengths of the sheet
 area_at : Formula → ℕ → ℕ → ℕ → Fraction

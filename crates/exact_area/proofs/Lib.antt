@@ -1,3 +1,4 @@
+pub mod AreaMono
 pub mod Between
 pub mod FractionInBracket
 pub mod AccuracyHolds

@@ -33,9 +33,9 @@ fn printed_fields(a: Assessment) -> FrameFields
 // number, 0 where there is none; 15 where the frame buffer is too short, and then nothing is read or written.
 pub fn print_case(text: &[u8], counts: &mut [u32], marks: &mut [u64], frame: &mut [u8]) -> u8
     ensures { CaseContract text.now
-        (record { map = record { counts = counts.entry.now; marks = marks.old }; frame = frame.old })
+        (record { map = record { counts = counts.old; marks = marks.old }; frame = frame.old })
         result
-        (record { map = record { counts = counts.exit.now; marks = marks.new }; frame = frame.new }) }
+        (record { map = record { counts = counts.new; marks = marks.new }; frame = frame.new }) }
 {
     if frame.len() < FRAME_LENGTH {
         return 15;

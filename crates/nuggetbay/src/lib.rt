@@ -59,7 +59,7 @@ pub extern "C" fn nb_descent(
 // The footprint on a lent map.
 #[unsafe(no_mangle)]
 pub extern "C" fn nb_footprint(counts: &[u32], marks: &[u64], cell_area: u32) -> Footprint
-    ensures { result ≡ footprint_of (record { counts = counts.entry.now; cell_area = cell_area }) marks.now }
+    ensures { result ≡ footprint_of (record { counts = counts.now; cell_area = cell_area }) marks.now }
 {
     footprint_on_map(counts, marks, cell_area)
 }
@@ -96,7 +96,7 @@ pub extern "C" fn nb_assess(
       dimension = dimension;
       mass = mass;
       speed = speed;
-      map = record { counts = counts.entry.now; cell_area = cell_area };
+      map = record { counts = counts.now; cell_area = cell_area };
       marks = marks.now;
       controlled = controlled;
       word = word;
@@ -110,8 +110,8 @@ pub extern "C" fn nb_assess(
 // Reads a case text into the lent buffers.
 #[unsafe(no_mangle)]
 pub extern "C" fn nb_read_case(text: &[u8], counts: &mut [u32], marks: &mut [u64]) -> Reading
-    ensures { ReadingContract text.now (record { counts = counts.entry.now; marks = marks.old }) result
-        (record { counts = counts.exit.now; marks = marks.new }) }
+    ensures { ReadingContract text.now (record { counts = counts.old; marks = marks.old }) result
+        (record { counts = counts.new; marks = marks.new }) }
 {
     read_case(text, counts, marks)
 }
@@ -133,9 +133,9 @@ pub extern "C" fn nb_case(
     frame: &mut [u8],
 ) -> u8
     ensures { CaseContract text.now
-        (record { map = record { counts = counts.entry.now; marks = marks.old }; frame = frame.old })
+        (record { map = record { counts = counts.old; marks = marks.old }; frame = frame.old })
         result
-        (record { map = record { counts = counts.exit.now; marks = marks.new }; frame = frame.new }) }
+        (record { map = record { counts = counts.new; marks = marks.new }; frame = frame.new }) }
 {
     print_case(text, counts, marks, frame)
 }
