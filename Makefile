@@ -21,7 +21,7 @@ SHARED = $(MADE)/libnuggetbay.so.$(VERSION)
 PROGRAM = $(MADE)/nuggetbay-case
 PROVED_PROGRAM = target/bin/case
 CALLS = $(MADE)/calls
-SOURCES := crates.txt $(shell find crates -name '*.rt' -o -name '*.antt')
+SOURCES := crates.txt $(shell find crates -name out -prune -o \( -name '*.rt' -o -name '*.antt' \) -print)
 CARGO = cd console && cargo
 FAULTS = a b c m t f r n p j o z d s v l e k g
 
@@ -59,14 +59,17 @@ help:
 $(MADE):
 	mkdir -p $@
 
-# The crates are proved side by side first; rt staticlib alone takes them one after the other.
+# rt lib proves the library and the crates below it before it builds
 $(PROVED): $(SOURCES)
-	rt check nuggetbay
-	rt staticlib nuggetbay
+	mkdir -p $(@D)
+	cd crates/nuggetbay && rt lib
+	cp crates/nuggetbay/out/libnuggetbay.a $@
 
 # after the library, so that rt runs once at a time
 $(PROVED_PROGRAM): $(SOURCES) | $(PROVED)
-	rt check case
+	mkdir -p $(@D)
+	cd crates/case && rt run <stdin >/dev/null
+	cp crates/case/out/case $@
 
 $(MADE)/messages.o: console/library/messages.c $(HEADER) | $(MADE)
 	$(CC) $(LIBRARY_CFLAGS) -Iconsole/include -c $< -o $@
@@ -106,7 +109,7 @@ uninstall:
 	rmdir $(INTO)/share/nuggetbay 2>/dev/null || true
 
 clean:
-	rm -rf target .ci/__pycache__ checker/__pycache__ console/tests/__pycache__
+	rm -rf target crates/*/out .ci/__pycache__ checker/__pycache__ console/tests/__pycache__
 
 # ---- the boundary
 

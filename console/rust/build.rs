@@ -1,4 +1,4 @@
-//! Finds libnuggetbay.a: in NUGGETBAY_LIB_DIR, else where `rt staticlib nuggetbay` writes it, else where `make install` puts it.
+//! Finds libnuggetbay.a: in NUGGETBAY_LIB_DIR, else where `make` puts what is proved, else where `make install` puts it.
 use std::env;
 use std::path::PathBuf;
 
