@@ -68,7 +68,7 @@ $(PROVED): $(SOURCES)
 # after the library, so that rt runs once at a time
 $(PROVED_PROGRAM): $(SOURCES) | $(PROVED)
 	mkdir -p $(@D)
-	cd crates/case && rt run <stdin >/dev/null
+	cd crates/case && rt run <stdin >$(CURDIR)/$@.log || { cat $(CURDIR)/$@.log; exit 1; }
 	cp crates/case/out/case $@
 
 $(MADE)/messages.o: console/library/messages.c $(HEADER) | $(MADE)

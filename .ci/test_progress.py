@@ -43,7 +43,7 @@ class ProgressTest(unittest.TestCase):
                 (root / path).parent.mkdir(parents=True, exist_ok=True)
                 (root / path).write_text("")
             (root / "crates.txt").write_text("# a list\na: std\n\nb: a\n")
-            self.assertEqual(progress.totals(root), {"crate": 2, "program": 1, "wrong program": 2})
+            self.assertEqual(progress.totals(root), {"crate": 2, "program": 2, "wrong program": 2})
 
 
 if __name__ == "__main__":

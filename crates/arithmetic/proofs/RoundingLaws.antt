@@ -71,7 +71,7 @@ pub rate : (x y p q c d : ℕ) → 0 < p → x * p ≤ y * q → q * d ≤ p * c
 rate x y p q c d pos h k =
     le_of_mul-le-mul_right {k = p} (omega (arith, mul-le-mul_right d h, mul-le-mul_left y k)) pos
 
--- a fraction's two numbers times the same number; rounded down it is the library's mul-div-mul-left
+-- a fraction's two numbers times the same number; rounded down it is the library's mul-div-mul_left
 pub scaled_up : (k n d : ℕ) → 0 < k → 0 < d → div_up (k * n) (k * d) ≡ div_up n d
 scaled_up k n d h l =
     let above : 0 < k * d = mul-pos h l

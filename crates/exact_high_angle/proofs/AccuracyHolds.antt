@@ -74,15 +74,15 @@ module _ (kilojoules root c : Fraction) (n : ℕ) (is : FifthRootIs kilojoules r
   circle_power_pos : 0 < circle_power.den
   circle_power_pos = fifth_pos (times root_factor c) (times_pos root_factor c (lit< tt) c_pos)
 
-  -- the area's fifth power, by the kilojoules and by the root
+  -- the area's fifth power, by the kJ and by the root
   power_from : times kilojoules circle_power ⊑ fifth_power area
   power_from = rw (fifth_times root (times root_factor c)) (times_mono kilojoules circle_power (fifth_power root) circle_power (omega (arith, is.equal)) (refl_le circle_power))
 
   power_to : fifth_power area ⊑ times kilojoules circle_power
   power_to = rw (fifth_times root (times root_factor c)) (times_mono (fifth_power root) circle_power kilojoules circle_power (omega (arith, is.equal)) (refl_le circle_power))
 
-  k_j_pos : 0 < (times kilojoules circle_power).den
-  k_j_pos = times_pos kilojoules circle_power is.k_j_denominator_above_zero circle_power_pos
+  kilojoules_pos : 0 < (times kilojoules circle_power).den
+  kilojoules_pos = times_pos kilojoules circle_power is.kilojoules_denominator_above_zero circle_power_pos
 
   area_pos : 0 < (fifth_power area).den
   area_pos = fifth_pos area (times_pos root (times root_factor c) is.root_denominator_above_zero (times_pos root_factor c (lit< tt) c_pos))
@@ -94,11 +94,11 @@ module _ (kilojoules root c : Fraction) (n : ℕ) (is : FifthRootIs kilojoules r
       let power = fifth_power number in
       record {
         at_least = (
-          λ h. rw area_is (fifth_order number area (trans_le power (times kilojoules circle_power) (fifth_power area) k_j_pos h power_from)),
+          λ h. rw area_is (fifth_order number area (trans_le power (times kilojoules circle_power) (fifth_power area) kilojoules_pos h power_from)),
           λ h. trans_le power (fifth_power area) (times kilojoules circle_power) area_pos (fifth_mono number area (rw area_is at h)) power_to,
         );
         at_most = (
-          λ h. rw area_is (fifth_order area number (trans_le (fifth_power area) (times kilojoules circle_power) power k_j_pos power_to h)),
+          λ h. rw area_is (fifth_order area number (trans_le (fifth_power area) (times kilojoules circle_power) power kilojoules_pos power_to h)),
           λ h. trans_le (times kilojoules circle_power) (fifth_power area) power area_pos power_from (fifth_mono area number (rw area_is at h)),
         );
       }

@@ -45,9 +45,9 @@ pub record SharpestWidth : Type 0 where
   pub accepted : (high_angle_of 34164 159990 0).refusal ≡ 0
   pub wider : NoWiderThanOnePartIn (sharpest_parts + 1) (high_angle_of 34164 159990 0).area → ⊥
 
--- the fifth root of a number of kilojoules is a fraction
+-- the fifth root of a number of kJ is a fraction
 pub record FifthRootIs (kilojoules root : Fraction) : Type 0 where
-  pub k_j_denominator_above_zero : 0 < kilojoules.den
+  pub kilojoules_denominator_above_zero : 0 < kilojoules.den
   pub root_denominator_above_zero : 0 < root.den
   pub equal : kilojoules.num * (fifth_power root).den ≡ (fifth_power root).num * kilojoules.den
 

@@ -1,4 +1,4 @@
--- The exact high impact angle area (document 02, item 2; chapter 5 of 002), in metres, kg and kilojoules, never rounded.
+-- The exact high impact angle area (document 02, item 2; chapter 5 of 002), in metres, kg and kJ, never rounded.
 use Rattle.std.specs.Prelude.{Bool, cond, ℕ, ◌*◌, ◌^◌, leb, ltb}
 use Rattle.arithmetic.specs.Fraction.{Fraction, ◌over◌, times, divided, ◌⊑◌}
 use Rattle.columns.specs.Column.{column_by}
@@ -31,16 +31,16 @@ highest_factor = 7 over 1
 abbrev pub root_factor : Fraction
 root_factor = 14 over 10
 
--- "the energy in kilojoules"
+-- "the energy in kJ"
 abbrev pub in_kilojoules : Fraction → Fraction
 in_kilojoules energy = divided energy (1000 over 1)
 
--- a factor that is a number, or that is 1.4 times the fifth root of a number of kilojoules
+-- a factor that is a number, or that is 1.4 times the fifth root of a number of kJ
 pub data ExactFactor : Type 0 where
   number : Fraction → ExactFactor
   root_of : Fraction → ExactFactor
 
--- "The factor is 2.3 below 12,000 J and 7 above 3,125,000 J. Between them it is 1.4 times the fifth root of the energy in kilojoules." Table 6.
+-- "The factor is 2.3 below 12,000 J and 7 above 3,125,000 J. Between them it is 1.4 times the fifth root of the energy in kJ." Table 6.
 unfoldable pub factor_at : Fraction → ExactFactor
 factor_at energy =
     cond (below energy root_from) (number lowest_factor)
@@ -57,7 +57,7 @@ unfoldable pub fifth_power : Fraction → Fraction
 fifth_power x = (x.num ^ 5) over (x.den ^ 5)
 
 -- "Where the fifth root isn't a fraction, "lies in" compares fifth powers." So the area, which is the factor × the circle, and a whole number stand in a
--- comparison as themselves, or each by its fifth power; that of 1.4 × root × circle is the kilojoules × (1.4 × circle)⁵.
+-- comparison as themselves, or each by its fifth power; that of 1.4 × root × circle is the kJ × (1.4 × circle)⁵.
 unfoldable pub area_side : ExactFactor → Fraction → Fraction
 area_side (number factor) circle = times factor circle
 area_side (root_of kilojoules) circle = times kilojoules (fifth_power (times root_factor circle))

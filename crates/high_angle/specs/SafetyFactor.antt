@@ -24,7 +24,7 @@ factor_below = 2300
 abbrev pub factor_above : ℕ
 factor_above = 7000
 
--- "5,378,240,000,000 × the low joules", "that constant × the high joules": the fifth power of 1.4 × 1,000, over 1,000 for kilojoules
+-- "5,378,240,000,000 × the low joules", "that constant × the high joules": the fifth power of 1.4 × 1,000, over 1,000 for kJ
 abbrev pub root_scale : ℕ
 root_scale = 5378240000000
 
