@@ -78,10 +78,11 @@ $(ARCHIVE): $(PROVED) $(MADE)/messages.o
 	cp $(PROVED) $@
 	ar rs $@ $(MADE)/messages.o
 
+# and a copy by the plain name: rt ci refuses links in the checkout
 $(SHARED): $(ARCHIVE) console/library/exports.map
 	$(CC) -shared -o $@ -Wl,-soname,$(SONAME) -Wl,--version-script=console/library/exports.map -Wl,-z,relro,-z,now,-z,defs \
 	    -Wl,--whole-archive $(ARCHIVE) -Wl,--no-whole-archive
-	ln -sf libnuggetbay.so.$(VERSION) $(MADE)/libnuggetbay.so
+	cp $@ $(MADE)/libnuggetbay.so
 
 $(PROGRAM): console/program/nuggetbay-case.c $(ARCHIVE) $(HEADER)
 	$(CC) $(LIBRARY_CFLAGS) -D_DEFAULT_SOURCE -Iconsole/include $< $(ARCHIVE) -o $@
