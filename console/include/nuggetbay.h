@@ -1,4 +1,4 @@
-/* nuggetbay: the proved ground risk sheet (SORA 2.5), for C and C++ on x86-64 Linux.
+/* nuggetbay: the proved ground risk sheet (SORA 2.5), for C and C++ on x86-64 Linux (x86-64-v2).
  *
  * From an aircraft, a map of head counts and the flight's footprint to the critical area, the intrinsic and the final
  * ground risk class. Link with -lnuggetbay, or with libnuggetbay.a; beside it only the C library's memcpy is needed.
