@@ -59,11 +59,10 @@ module _ (t : List ℕ) (lent : MapBuffers) where
   -- what is answered and left, from the refusal number
   module _ {n : ℕ} (is : n ≡ reading_refusal t lent) where
     pub reading_refused : (n ≡ 0 → ⊥) → {h : CaseHead} → h ≡ no_head → ReadingContract t lent (record { refusal = n; head = h }) lent
-    unfolding reading_refusal reading_of map_buffers_left
     reading_refused some e =
         record {
-          answers = rw e (refused_by (accepted_reading t) refused_reading (reading_tests t lent) refl is some);
-          left = refused_by (map_buffers_of t) (λ _. lent) (reading_tests t lent) refl is some;
+          answers = rw (e, is) (sym (refused_answer (λ k. some (is ∙ k))));
+          left = sym (refused_left (λ k. some (is ∙ k)));
         }
 
     pub none_accepted : n ≡ 0 → Accepted

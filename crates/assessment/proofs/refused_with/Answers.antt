@@ -1,3 +1,4 @@
+-- `refused_with` gives zeros beside the refusal.
 use Rattle.assessment.proofs.refused_with.Goals as goal
 
 pub returns : goal.returns

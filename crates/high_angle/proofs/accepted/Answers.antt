@@ -1,3 +1,4 @@
+-- `accepted` gives the answer of a dimension and a mass.
 use native.Mathlib.Omega.{arith}
 use Rattle.high_angle.proofs.AnswerMade.{frontal_fits, joules_fit, factor_fits, answer_made}
 use Rattle.high_angle.proofs.accepted.Goals as goal

@@ -1,3 +1,4 @@
+-- `high_angle_of` gives the answer, or its refusal.
 use mathlib.Core.Path.{refl, sym, ◌∙◌}
 use Rattle.arithmetic.proofs.RefusalLaws.{refused_by, accepted_by}
 use Rattle.frontal_area.specs.FrontalArea.{multirotor_tests}

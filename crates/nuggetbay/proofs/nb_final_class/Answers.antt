@@ -1,3 +1,4 @@
+-- `nb_final_class` passes the final class on.
 use Rattle.nuggetbay.proofs.nb_final_class.Goals as goal
 
 pub returns : goal.returns

@@ -1,3 +1,4 @@
+-- `nb_sheet` gives the sheet with the aircraft's own size column, as `sheet_of` does.
 use Rattle.sheet.proofs.LinesMade.{with_own_size_column}
 use Rattle.nuggetbay.proofs.nb_sheet.Goals as goal
 

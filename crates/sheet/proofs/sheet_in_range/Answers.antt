@@ -1,3 +1,4 @@
+-- `sheet_in_range` gives the sheet of an aircraft within its ranges, or refusal 4.
 use mathlib.Core.Path.{◌∙◌}
 use native.Mathlib.Omega.{arith}
 use Rattle.sheet.proofs.LinesMade.{glide_fits, slide_fits, total_fits, refused_4, accepted}

@@ -1,3 +1,4 @@
+-- `sheet_of` gives the sheet with the aircraft's own size column.
 use Rattle.sheet.proofs.LinesMade.{with_own_size_column}
 use Rattle.sheet.proofs.sheet_of.Goals as goal
 

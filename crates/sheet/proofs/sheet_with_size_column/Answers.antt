@@ -1,3 +1,4 @@
+-- `sheet_with_size_column` gives the sheet with its size column, or its refusal.
 use mathlib.Core.Path.{refl, sym, ◌∙◌}
 use Rattle.arithmetic.proofs.RefusalLaws.{refused_before}
 use Rattle.sheet.specs.Sheet.{lines_of, lines_with_size_column, refused_sheet, accepted_sheet, range_tests, area_tests, sheet_with_size_column}

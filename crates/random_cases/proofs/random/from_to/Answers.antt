@@ -1,3 +1,4 @@
+-- A remainder is at most what is divided, so the sum of two numbers below 2^32 fits.
 use Prim.Native.Nat.{◌+◌}
 use native.Mathlib.Nat.{mod-le}
 use native.Mathlib.Omega.{arith}

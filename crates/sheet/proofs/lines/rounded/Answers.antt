@@ -1,3 +1,4 @@
+-- `rounded` rounds the low end down and the high end up.
 use mathlib.Core.Path.{refl}
 use Rattle.arithmetic.specs.Rounding.{div_up}
 use Rattle.sheet.proofs.lines.rounded.Goals as goal

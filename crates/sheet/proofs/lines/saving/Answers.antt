@@ -1,3 +1,4 @@
+-- `saving` gives line 3 with one division.
 use native.Mathlib.Nat.{div-le_self}
 use native.Mathlib.Omega.{arith}
 use Rattle.arithmetic.proofs.RoundingLaws.{up_next}

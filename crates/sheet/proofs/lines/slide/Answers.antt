@@ -1,3 +1,4 @@
+-- `slide` gives line 4.
 use mathlib.Core.Path.{ap₂}
 use Rattle.columns.specs.Bracket.{bracket}
 use Rattle.sheet.proofs.lines.slide.Goals as goal

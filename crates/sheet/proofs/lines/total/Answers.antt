@@ -1,3 +1,4 @@
+-- `total` gives line 5.
 use mathlib.Core.Path.{ap₂}
 use Rattle.columns.specs.Bracket.{bracket}
 use Rattle.sheet.specs.Lines.{total_of}

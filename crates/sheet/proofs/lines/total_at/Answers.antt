@@ -1,3 +1,4 @@
+-- `total_at` gives T at one end of the lines.
 use native.Mathlib.Omega.{arith}
 use native.Mathlib.Nat.{mul-le-mul, add-le-add}
 use Rattle.sheet.proofs.lines.total_at.Goals as goal
