@@ -12,7 +12,7 @@ use, in whatever crate. The definitions in crates/*/specs/*.antt are told apart 
   - each one in a file named Private*.antt is cited by a contract, or used by a definition that is;
   - none stands in proofs/ that a contract, a definition or a theorem's statement cites.
 
-A function is public if it can be called from outside its crate. A theorem is a public name of proofs/XHolds.antt, or XHold.antt, that
+A function is public if it can be called from outside its crate; a ghost field or member is if its type can be named there. A theorem is a public name of proofs/XHolds.antt, or XHold.antt, that
 concludes with a claim of specs/X.antt: a definition into Type 0.
 
 Prints what it counted; or each definition that is in the wrong place, and whatever it can't read, and ends with 1.
@@ -222,25 +222,44 @@ class Definitions:
 # Contracts
 # ---------------------------------------------------------------------------
 
-FUNCTION = re.compile(r'^( *)(pub(?:\([^)]*\))? )?(?:extern "C" )?fn (\w+)\(', re.M)
+FUNCTION = re.compile(r'^( *)(pub(?:\([^)]*\))? )?(?:extern "C" )?fn (\w+)(?=[(<])', re.M)
 CLAUSE = re.compile(r"[^{]*?\b(?:requires|ensures)(?: \w+)?\s*(?=\{)")
-IMPL = re.compile(r"^impl (\w+) \{$", re.M)
+TYPE = re.compile(r"^(?:pub(?:\([^)]*\))? )?(?:struct|enum) (\w+)", re.M)
+IMPL = re.compile(r"^impl\b([^{]*) \{$", re.M)
+GHOST = re.compile(r"^ +(?:pub )?ghost (\w+)(?:: | = )(?=\{)", re.M)
 PASSED_ON = re.compile(r"^pub use (?:crate::)?((?:\w+::)*)(?:(\w+)|\{(\w+(?:, \w+)*)\});$", re.M)
 
 
 def closed(text, start):
-    """The place after the bracket that closes the one at a place."""
-    opening, closing = text[start], {"(": ")", "{": "}"}[text[start]]
+    """The place after the bracket that closes the one at a place. The > of an arrow closes nothing."""
+    opening, closing = text[start], {"(": ")", "{": "}", "<": ">"}[text[start]]
     depth = 0
     for place in range(start, len(text)):
-        depth += (text[place] == opening) - (text[place] == closing)
+        depth += (text[place] == opening) - (text[place] == closing and text[place - 1:place + 1] != "->")
         if depth == 0:
             return place + 1
     raise ValueError(f"nothing closes {text[start:start + 60]}")
 
 
+class Owner(NamedTuple):
+    """A type and, where an impl is one of a trait, the trait; what it holds begins at the place."""
+    place: int
+    name: str
+    trait: str
+
+
+def owners_of(text):
+    """The types and impls of a file, in their order."""
+    found = [Owner(match.start(), match[1], "") for match in TYPE.finditer(text)]
+    for match in IMPL.finditer(text):
+        head = match[1]
+        trait, _, name = (head[closed(head, 0):] if head.startswith("<") else head).strip().rpartition(" for ")
+        found.append(Owner(match.start(), re.match(r"\w*", name)[0], trait))
+    return sorted(found)
+
+
 class Function(NamedTuple):
-    """owner: the type whose method it is. contract: the text of its requires and ensures."""
+    """owner: the type whose method, or whose ghost field or member, it is. contract: the text of its requires and ensures."""
     name: str
     owner: str
     pub: bool
@@ -249,21 +268,31 @@ class Function(NamedTuple):
 
 
 def functions_of(where, text, unread):
-    found, clauses = [], 0
+    """The functions of a file, and the ghost fields and members of its types: facts that hold of each of their values, and what a
+    trait's functions answer."""
+    found, clauses, owners = [], 0, owners_of(text)
     for match in FUNCTION.finditer(text):
-        end = closed(text, match.end() - 1)
-        parameters = re.findall(r"(\w+)\s*:", text[match.end():end])
-        owners = IMPL.findall(text[:match.start()]) if match[1] else [""]
+        start = match.end()
+        if text[start] == "<":
+            start = closed(text, start)
+        end = closed(text, start)
+        parameters = re.findall(r"(\w+)\s*:", text[start:end])
+        owner = [owner for owner in owners if owner.place < match.start()][-1:] if match[1] else [Owner(0, "", "")]
         contract = []
         while clause := CLAUSE.match(text, end):
-            start, end = clause.end(), closed(text, clause.end())
-            contract.append(text[start + 1:end - 1])
+            begin, end = clause.end(), closed(text, clause.end())
+            contract.append(text[begin + 1:end - 1])
         clauses += len(contract)
-        if owners:
-            found.append(Function(match[3], owners[-1], match[2] == "pub ", parameters, "\n".join(contract)))
-    words = r"\bfn \w", r"\b(?:requires|ensures)\b", r"^(?:pub )?(?:impl|trait)\b"
-    if [len(found), clauses, len(IMPL.findall(text))] != [len(re.findall(word, text, re.M)) for word in words]:
-        unread.append(f"{where}: a function, a contract or an impl that couldn't be read")
+        for of in owner:
+            found.append(Function(match[3], of.name, match[2] == "pub " or of.trait != "", parameters, "\n".join(contract)))
+    functions = len(found)
+    for match in GHOST.finditer(text):
+        for of in [owner for owner in owners if owner.place < match.start()][-1:]:
+            found.append(Function(match[1], of.name, True, [], text[match.end() + 1:closed(text, match.end()) - 1]))
+    counted = [functions, len(found) - functions, clauses, len(IMPL.findall(text))]
+    words = r"\bfn \w", r"\bghost (?!use\b)\w", r"\b(?:requires|ensures)\b", r"^(?:pub )?(?:impl|trait)\b"
+    if counted != [len(re.findall(word, text, re.M)) for word in words]:
+        unread.append(f"{where}: a function, a contract, a ghost member or an impl that couldn't be read")
     return found
 
 
@@ -284,14 +313,18 @@ def passed_on_from(crate, sources, unread):
 def contracts_of(crate, sources, definitions, unread):
     """A statement for each function of a crate, whose files are given by their names in src/."""
     passed_on = passed_on_from(crate, sources, unread)
-    types = {name for text in sources.values() for name in re.findall(r"^pub (?:struct|enum) (\w+)", text, re.M) if "lib" in sources}
+    types = {name for module, text in sources.items() for name in re.findall(r"^pub (?:struct|enum) (\w+)", text, re.M)
+             if module == "lib" or (module, name) in passed_on}
+    # an impl for a type of another crate is reached by that type
+    foreign = {owner.name for text in sources.values() for owner in owners_of(text)} - {
+        match[1] for text in sources.values() for match in TYPE.finditer(text)}
     for module, text in sources.items():
         where = f"crates/{crate}/src/{module}.rt"
         unread += [f"{where}: {path} is imported" for path, _ in from_proofs(text)]
         scope = definitions.scope_of(where, text, unread)
         for f in functions_of(where, text, unread):
-            public = f.pub and (f.owner in types if f.owner else module == "lib" or (module, f.name) in passed_on)
-            name = f"the contract of {f.name} in {where}"
+            public = f.pub and (f.owner in types | foreign if f.owner else module == "lib" or (module, f.name) in passed_on)
+            name = f"the contract of {f'{f.owner}::' * bool(f.owner)}{f.name} in {where}"
             yield Statement(name, public, cited_in(name, f.contract, scope, unread, f.parameters))
 
 

@@ -166,6 +166,25 @@ class Faults(unittest.TestCase):
             ["PrivateSteps.antt: half is for private"],
             ("crates/low/src/steps.rt", "    ensures", "    requires { half n ≡ 1 }\n    ensures"))
 
+    def test_generic_function_counts(self):
+        self.assert_wrong(
+            ["half is for private functions, and must be believed: the contract of twice"],
+            ("crates/low/src/steps.rt", "twice(n: u8)", "twice<F: Fn(u8) -> u8>(n: u8)"),
+            ("crates/low/src/steps.rt", "result ≡ double n", "result ≡ half (double n)"))
+
+    def test_ghost_field_of_public_type_counts(self):
+        self.assert_wrong(
+            ["Kinds is for private functions, and must be believed: the contract of Answer::kinds"],
+            ("crates/high/src/lib.rt", "    pub double: u8,\n", "    pub double: u8,\n    pub ghost kinds: { Kinds },\n"))
+
+    def test_what_an_impl_of_a_trait_gives_counts(self):
+        for of, head in (("Answer", "impl From<Result<u8, u8>> for Answer {"), ("Answer", "impl<'a> From<&'a u8> for Answer {"),
+                         ("u8", "impl From<Answer> for u8 {")):
+            with self.subTest(head=head):
+                given = head + "\n    ghost from_gives = { λ n a. a ≡ Kinds };\n\n    fn from(n: u8) -> Answer {\n    }\n}\n\nfn kinds"
+                self.assert_wrong([f"Kinds is for private functions, and must be believed: the contract of {of}::from_gives"],
+                                  ("crates/high/src/lib.rt", "fn kinds", given))
+
     def test_cited_definition_uses_private_one_of_another_crate(self):
         self.assert_wrong(
             ["PrivateSteps.antt: half is for private functions, and must be believed: crates/high/specs/Answer.antt: answer_of uses it"],
@@ -219,6 +238,19 @@ class Faults(unittest.TestCase):
         program = {path.replace("high/src/lib.rt", "high/src/main.rt"): text for path, text in SMALL.items()}
         self.assert_wrong(["answer_of serves", "◌then◌ serves"], no_hypothesis, files=program)
 
+    def test_ghost_field_of_a_type_that_is_not_public(self):
+        for kind in ("struct", "pub(crate) struct"):
+            with self.subTest(kind=kind):
+                self.assertEqual(self.wrong(("crates/high/src/lib.rt", "fn kinds(", kind + " Own {\n    ghost kinds: { Kinds },\n}\n\nfn kinds(")), [])
+
+    def test_method_of_a_type_that_is_not_passed_on(self):
+        """A type in a module of its own."""
+        lib = SMALL["crates/high/src/lib.rt"]
+        moved = {**SMALL, "crates/high/src/answer.rt": lib, "crates/high/src/lib.rt": "mod answer;\n\npub use answer::Answer;\n"}
+        self.assertEqual(self.wrong(files=moved), [])
+        self.assert_wrong(["answer_of serves", "◌then◌ serves"], ("crates/high/src/lib.rt", "pub use", "use"),
+                          ("crates/high/proofs/AnswerHolds.antt", "(h : answer_of n ≡ 0) ", ""), files=moved)
+
     def test_function_that_is_not_passed_on(self):
         self.assert_wrong(["double serves", "◌then◌ serves"], ("crates/low/src/lib.rt", "pub use", "use"),
                           ("crates/high/specs/Answer.antt", "n then n", "n"))
@@ -266,14 +298,14 @@ class Faults(unittest.TestCase):
                 ("crates/low/specs/PrivateSteps.antt", "Numbers.{double}", "Numbers as double"),
                 ("crates/low/specs/PrivateSteps.antt", "Numbers.{double}", "Others.{double}"),
                 ("crates/low/src/steps.rt", "fn twice(n: u8)", "fn twice(double: u8)"),
-                ("crates/low/src/steps.rt", "fn twice(", "fn twice<T>("),
                 ("crates/low/src/steps.rt", "fn twice(", "const fn twice("),
                 ("crates/low/src/lib.rt", "pub use steps::twice;", "pub use steps::{twice as two};"),
                 ("crates/low/src/lib.rt", "mod steps;", "pub mod steps;"),
                 ("crates/low/src/lib.rt", "steps::twice", "steps::more::twice"),
                 ("crates/low/src/lib.rt", "steps::twice", "steps::thrice"),
                 ("crates/low/src/steps.rt", "    n\n", "}\ntrait Made {\n    n\n"),
-                ("crates/high/src/lib.rt", "impl Answer {", "impl Made for Answer {")):
+                ("crates/high/src/lib.rt", "    pub double: u8,", "    ghost kinds:\n    { Kinds },"),
+                ("crates/high/src/lib.rt", "impl Answer {", "impl Answer\nwhere\n{")):
             with self.subTest(path=path, new=new):
                 self.assertTrue(any(path in line or "contract of" in line for line in self.wrong((path, old, new))))
 

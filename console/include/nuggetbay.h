@@ -45,16 +45,16 @@ uint32_t nb_version(void);
  * nb_case call, the return address is counted. This is so once names are bound: in a program that is linked with -Wl,-z,now or
  * statically, or runs with LD_BIND_NOW=1. Elsewhere the first call binds a name, which took some 3,100 bytes more where it was
  * tried. */
-#define NB_SHEET_STACK 72u
-#define NB_HIGH_ANGLE_STACK 48u
+#define NB_SHEET_STACK 64u
+#define NB_HIGH_ANGLE_STACK 40u
 #define NB_DESCENT_STACK 128u
-#define NB_FOOTPRINT_STACK 384u
+#define NB_FOOTPRINT_STACK 128u
 #define NB_INTRINSIC_CLASS_STACK 8u
-#define NB_FINAL_CLASS_STACK 48u
-#define NB_ASSESS_STACK 704u
-#define NB_READ_CASE_STACK 808u
-#define NB_WRITE_FRAME_STACK 24u
-#define NB_CASE_STACK 1064u
+#define NB_FINAL_CLASS_STACK 184u
+#define NB_ASSESS_STACK 824u
+#define NB_READ_CASE_STACK 840u
+#define NB_WRITE_FRAME_STACK 64u
+#define NB_CASE_STACK 1112u
 #define NB_REFUSAL_MESSAGE_STACK 8u
 #define NB_VERSION_STACK 8u
 

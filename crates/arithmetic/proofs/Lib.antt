@@ -7,5 +7,3 @@ pub mod ListLaws
 pub mod PartLaws
 pub mod EachLaws
 pub mod OrLaws
-pub mod RefusalLaws
-pub mod RefusalsHold

@@ -7,8 +7,12 @@ use native.Mathlib.Numerals.{add-one}
 use native.Mathlib.Omega.{arith}
 use lib.Bits.{bit_or, or_add_and, and_le_l, and_le_r, or_lt}
 use lib.Pow.{pow_pos}
-use Rattle.arithmetic.specs.PrivateBitwiseOr.{or_below}
 use Rattle.arithmetic.proofs.TestLaws.{lt_or_le}
+
+-- f 0 | f 1 | .. | f (n - 1)
+unfoldable pub or_below : (ℕ → ℕ) → ℕ → ℕ
+or_below f zero = 0
+or_below f (suc n) = bit_or (or_below f n) (f n)
 
 left_le : (a b : ℕ) → a ≤ bit_or a b
 left_le a b = omega (arith, or_add_and a b, and_le_r a b)

@@ -164,17 +164,3 @@ row_next w r f old b d h s l e =
 -- the part from a on, and nothing else, was filled with x
 pub filled_stored : {old : List ℕ} {b : List ℕ} (a : ℕ) (x : List ℕ) → Filled old (a + length x) (take a old ++ x) b → b ≡ stored a x old
 filled_stored {old = old} a x s = s.is ∙ rw (append_assoc, drop-drop (length x) a old)
-
--- x at the start, and y right after it
-pub stored_after : (old b c x y : List ℕ) (a : ℕ) → length x ≡ a → b ≡ stored 0 x old → c ≡ stored a y b → c ≡ stored 0 (x ++ y) old
-stored_after old b c x y a l p q =
-    let d = drop (length x) old in
-    let place = drop-drop (length y) (length x) old in
-    q ∙ rw (p, take_at x d a l, drop_at x d a l, append_assoc, length-append, place)
-
--- one element more after x
-pub stored_more : (old b x : List ℕ) (a e : ℕ) → length x ≡ a → a < length old → b ≡ stored 0 x old → set b a e ≡ stored 0 (x ++ (e ∷ [])) old
-stored_more old b x a e l h p =
-    let filled : Filled old a x b = record { is = rw l at p; long = l; kept = ap length p ∙ simp (length-append, length-drop) (omega arith) } in
-    let long : length (x ++ (e ∷ [])) ≡ a + 1 = simp length-append (omega arith) in
-    rw long (store_next e h filled).is

@@ -4,6 +4,4 @@ pub mod Fraction
 pub mod SumsAndMaxima
 pub mod Lists
 pub mod Each
-pub mod Refusals
-pub mod PrivateBitwiseOr
 pub mod PrivateFirstMaximum

@@ -6,8 +6,8 @@ use mathlib.Core.List.{List, ◌∷◌}
 use Prim.Native.Nat.{ℕ}
 use borrow.Author.Tests.{eq-eqb}
 use lib.Dec.{eqb}
-use Rattle.arithmetic.specs.Refusals.{numbers, OneOf}
-use Rattle.arithmetic.proofs.RefusalLaws.{one_of_more}
+use Rattle.refusal.specs.Refusals.{numbers, OneOf}
+use Rattle.refusal.proofs.RefusalLaws.{one_of_more}
 use Rattle.arithmetic.proofs.TestLaws.{went_on}
 use Rattle.sheet.specs.Sheet.{sheet_tests, sheet_of}
 use Rattle.sheet.proofs.AcceptanceHolds.{sheet_promise}

@@ -1,6 +1,6 @@
 -- What is promised of every assessment, beyond its definition. The proofs are in proofs/PromisesHold.antt.
 use Rattle.std.specs.Prelude.{◌≡◌, List, ◌∷◌, ◌++◌, ℕ}
-use Rattle.arithmetic.specs.Refusals.{numbers, OneOf}
+use Rattle.refusal.specs.Refusals.{numbers, OneOf}
 use Rattle.sheet.specs.Sheet.{sheet_tests}
 use Rattle.map.specs.Refusals.{map_tests}
 use Rattle.risk_class.specs.declared.class_table.IntrinsicClass.{IntrinsicClass}

@@ -32,16 +32,15 @@ fn read_full(input: &mut impl Read, into: &mut [u8]) -> usize
 }
 
 fn main(rt: HostRuntime) {
+    // no heap: a buffer for the longest text, and how much of it was read
     let mut text = [0u8; READ_AT_MOST];
     let n = read_full(&mut rt.reader(), &mut text);
     let mut counts = [0u32; case_text::COUNTS_LENGTH];
     let mut marks = [0u64; case_text::MARKS_LENGTH];
     let mut frame = [0u8; frame::FRAME_LENGTH];
-    let refusal = ground_risk_case::print_case(&text[..n], &mut counts, &mut marks, &mut frame);
     // a write that fails ends the program as one that succeeds does: there is nobody left to tell
-    let _ = if refusal == 0 {
-        rt.write_all(&frame)
-    } else {
-        rt.write_all(&frame[..frame::REFUSAL_LENGTH])
+    let _ = match ground_risk_case::print_case(&text[..n], &mut counts, &mut marks, &mut frame) {
+        Ok(()) => rt.write_all(&frame),
+        Err(_refusal) => rt.write_all(&frame[..frame::REFUSAL_LENGTH]),
     };
 }

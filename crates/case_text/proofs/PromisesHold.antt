@@ -2,9 +2,9 @@
 use mathlib.Core.Path.{◌≡◌, refl, sym, ap, ◌∙◌}
 use mathlib.Core.List.{List}
 use Prim.Native.Nat.{ℕ}
-use Rattle.arithmetic.specs.Refusals.{AnswerPromise}
-use Rattle.arithmetic.proofs.RefusalLaws.{first_exactly_when, refused_by, accepted_by}
-use Rattle.arithmetic.proofs.RefusalsHold.{answer_promise}
+use Rattle.refusal.specs.Refusals.{AnswerPromise}
+use Rattle.refusal.proofs.RefusalLaws.{first_exactly_when, refused_by, accepted_by}
+use Rattle.refusal.proofs.RefusalsHold.{answer_promise}
 use Rattle.case_text.specs.Text.{MapBuffers, map_buffers_of, reading_tests, reading_refusal, accepted_reading, refused_reading, reading_of, map_buffers_left, ReadingContract}
 use Rattle.case_text.specs.Promises.{ReadingPromise}
 use Rattle.case_text.specs.declared.Reading.{Reading}

@@ -5,14 +5,15 @@ use mathlib.Core.List.{List}
 use Prim.Native.Nat.{ℕ}
 use borrow.Author.Tests.{eqb-true, not-false}
 use lib.ListN.{length}
-use Rattle.arithmetic.specs.Refusals.{FirstToHold}
-use Rattle.arithmetic.proofs.RefusalLaws.{FollowsFrom, first_exactly_when, first_way_out, refused_by, accepted_by}
+use Rattle.refusal.specs.Refusals.{FirstToHold}
+use Rattle.refusal.proofs.RefusalLaws.{FollowsFrom, first_exactly_when, first_way_out, refused_by, accepted_by}
 use Rattle.map.proofs.TestsPassed.{lengths}
 use Rattle.hex_text.specs.Blocks.{is_block}
 use Rattle.case_text.specs.Layout.{line1, mark_lines, count_lines, marks_start, counts_start, text_len}
-use Rattle.case_text.specs.Text.{MapBuffers, head_of, map_buffers_of, is_text, reading_tests, reading_refusal, no_head, refused_reading, accepted_reading, reading_of, map_buffers_left, ReadingContract}
+use Rattle.case_text.specs.Text.{MapBuffers, head_of, map_buffers_of, is_text, reading_tests, reading_refusal, refused_reading, accepted_reading, reading_of, map_buffers_left, ReadingContract}
 use Rattle.case_text.specs.TextLaw.{RightLengths}
 use Rattle.case_text.specs.declared.CaseHead.{CaseHead}
+use Rattle.case_text.specs.declared.Reading.{Reading}
 
 -- the test of a text, from the tests of its blocks
 pub text_is : (t : List ℕ) {head marks counts : Bool} → head ≡ is_block line1 t 0 → marks ≡ is_block mark_lines t marks_start → counts ≡ is_block count_lines t counts_start
@@ -56,22 +57,20 @@ module _ (t : List ℕ) (lent : MapBuffers) where
   unfolding reading_refusal map_buffers_left
   refused_left some = sym (refused_by (map_buffers_of t) (λ _. lent) (reading_tests t lent) refl refl some)
 
-  -- what is answered and left, from the refusal number
-  module _ {n : ℕ} (is : n ≡ reading_refusal t lent) where
-    pub reading_refused : (n ≡ 0 → ⊥) → {h : CaseHead} → h ≡ no_head → ReadingContract t lent (record { refusal = n; head = h }) lent
-    reading_refused some e =
-        record {
-          answers = rw (e, is) (sym (refused_answer (λ k. some (is ∙ k))));
-          left = sym (refused_left (λ k. some (is ∙ k)));
-        }
+  -- a refused reading with the first refusal's number, and the accepted one
+  pub reading_refused : {n : ℕ} → n ≡ reading_refusal t lent → (n ≡ 0 → ⊥) → {answer : Reading} → answer ≡ refused_reading n → {after : MapBuffers} → after ≡ lent
+      → ReadingContract t lent answer after
+  reading_refused is some e f =
+      record {
+        answers = e ∙ rw is (sym (refused_answer (λ k. some (is ∙ k))));
+        left = f ∙ sym (refused_left (λ k. some (is ∙ k)));
+      }
 
-    pub none_accepted : n ≡ 0 → Accepted
-    none_accepted none = refusal_none (sym is ∙ none)
-
-    pub reading_accepted : n ≡ 0 → {h : CaseHead} → h ≡ head_of t → {after : MapBuffers} → after ≡ map_buffers_of t → ReadingContract t lent (record { refusal = 0; head = h }) after
-    unfolding reading_refusal reading_of map_buffers_left
-    reading_accepted none e f =
-        record {
-          answers = rw e (accepted_by (accepted_reading t) refused_reading (reading_tests t lent) refl is none);
-          left = f ∙ accepted_by (map_buffers_of t) (λ _. lent) (reading_tests t lent) refl is none;
-        }
+  pub reading_accepted : 0 ≡ reading_refusal t lent → {h : CaseHead} → h ≡ head_of t → {after : MapBuffers} → after ≡ map_buffers_of t
+      → ReadingContract t lent (record { refusal = 0; head = h }) after
+  unfolding reading_refusal reading_of map_buffers_left
+  reading_accepted is e f =
+      record {
+        answers = rw e (accepted_by (accepted_reading t) refused_reading (reading_tests t lent) refl is refl);
+        left = f ∙ accepted_by (map_buffers_of t) (λ _. lent) (reading_tests t lent) refl is refl;
+      }

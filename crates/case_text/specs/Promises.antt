@@ -1,6 +1,6 @@
 -- What is promised of every reading, in the words of its contract. The proof is in proofs/PromisesHold.antt.
 use Rattle.std.specs.Prelude.{◌≡◌, List, ℕ}
-use Rattle.arithmetic.specs.Refusals.{AnswerPromise}
+use Rattle.refusal.specs.Refusals.{AnswerPromise}
 use Rattle.case_text.specs.Text.{MapBuffers, map_buffers_of, reading_tests, accepted_reading, refused_reading}
 use Rattle.case_text.specs.declared.Reading.{Reading}
 

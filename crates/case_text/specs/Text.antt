@@ -1,6 +1,8 @@
 -- The reading of a case text: what its bytes say, what is refused, and what the lent buffers hold afterwards.
-use Rattle.std.specs.Prelude.{ℕ, ◌≡◌, Bool, not, List, [], ◌∷◌, eqb, length, get_or}
-use Rattle.arithmetic.specs.Refusals.{Test, ◌when◌, first_refusal, answered}
+use Rattle.std.specs.Prelude.{ℕ, ◌≡◌, Bool, not, List, [], ◌∷◌, eqb, length, get_or, Result}
+use Rattle.refusal.specs.Refusals.{Test, ◌when◌, first_refusal, answered}
+use Rattle.refusal.specs.Numbers.{answer_as}
+use Rattle.refusal.specs.declared.Refusal.{Refusal}
 use Rattle.map.specs.Refusals.{wrong_lengths}
 use Rattle.hex_text.specs.Blocks.{are_blocks, values_at}
 use Rattle.case_text.specs.Layout.{line1, mark_lines, count_lines, case_blocks, marks_start, counts_start, text_len}
@@ -72,8 +74,15 @@ no_head = record { dimension = 0; mass = 0; speed = 0; cell_area = 0; controlled
 abbrev pub refused_reading : ℕ → Reading
 refused_reading n = record { refusal = n; head = no_head }
 
+abbrev pub accepted_head : CaseHead → Reading
+accepted_head h = record { refusal = 0; head = h }
+
 abbrev pub accepted_reading : List ℕ → Reading
-accepted_reading t = record { refusal = 0; head = head_of t }
+accepted_reading t = accepted_head (head_of t)
+
+-- what an answer of the code stands for: "a definition tells you this paper's number and values for each of its cases"
+abbrev pub reading_answer : Result CaseHead Refusal → Reading
+reading_answer = answer_as accepted_head refused_reading
 
 unfoldable pub reading_of : List ℕ → MapBuffers → Reading
 reading_of t lent = answered (reading_tests t lent) (accepted_reading t) refused_reading

@@ -10,19 +10,20 @@ ghost use Rattle.case_text.specs.Text.{head_of, marks_of, counts_of};
 use crate::CaseHead;
 use crate::layout::{
     CELL_AREA, CONTROLLED, COUNT_LINE, COUNT_LINE_DIGITS, COUNTS_START, DIMENSION, HEAD_DIGITS,
-    MARK_LINE, MARKS_START, MASS, SPEED, WORD,
+    MARK_LINE, MARKS_START, MASS, SPEED, TEXT_LENGTH, WORD,
 };
 use hex_text::{number_of_four, number_of_two, number_of_words, word};
-use map::{MAP_COLUMNS, MAP_ROWS};
+use map::{MAP_CELLS, MAP_COLUMNS, MAP_ROWS};
 
-// The digits of a word, and the words of a line of counts.
+// The digits of a word, and of two.
 const WORD_DIGITS: usize = 4;
 
-// The digits of two words, and what a number of so many is taken times before as many more.
 const TWO_WORDS: usize = 2 * WORD_DIGITS;
 
+// One, with eight digits after it.
 const AFTER_TWO_WORDS: u64 = 1 << 32;
 
+// The words of a line of counts.
 const WORDS: usize = 2 * MAP_COLUMNS;
 
 // The four bytes from a place on as one number.
@@ -41,8 +42,7 @@ fn eight_at(text: &[u8], at: usize) -> u32
     number_of_words(word_at(text, at), word_at(text, at + WORD_DIGITS))
 }
 
-pub(crate) fn head_of(text: &[u8]) -> CaseHead
-    requires { length text.now ≡ text_len }
+pub(crate) fn head_of(text: &[u8; TEXT_LENGTH]) -> CaseHead
     ensures { result ≡ head_of text.now }
 {
     CaseHead {
@@ -63,63 +63,47 @@ fn mark_at(text: &[u8], at: usize) -> u64
     eight_at(text, at) as u64 * AFTER_TWO_WORDS + eight_at(text, at + TWO_WORDS) as u64
 }
 
-pub(crate) fn fill_marks(text: &[u8], marks: &mut [u64])
-    requires { (length text.now ≡ text_len) × (length marks.old ≡ map_rows) }
+pub(crate) fn fill_marks(text: &[u8; TEXT_LENGTH], marks: &mut [u64; MAP_ROWS])
     ensures { marks.new ≡ marks_of text.now }
 {
-    let mut k = 0;
-    while k < MAP_ROWS {
-        marks[k] = mark_at(text, MARKS_START + MARK_LINE * k);
-        k += 1;
+    for (k, mark) in marks.iter_mut().enumerate() {
+        *mark = mark_at(text, MARKS_START + MARK_LINE * k);
     }
 }
 
 // Each four bytes of a line as one number: a copy.
-fn words_of(line: &[u8], words: &mut [u32])
-    requires { (length line.now ≡ line_digits count_lines) × (length words.old ≡ 2 * map_columns) }
-    ensures { words.new ≡ tabulate (λ i. word_at line.now (4 * i)) (2 * map_columns) }
+fn words_of(line: &[u8]) -> [u32; WORDS]
+    requires { length line.now ≡ line_digits count_lines }
+    ensures { result ≡ tabulate (λ i. word_at line.now (4 * i)) (2 * map_columns) }
 {
-    let mut i = 0;
-    while i < WORDS {
-        words[i] = word_at(line, WORD_DIGITS * i);
-        i += 1;
+    let mut words = [0; WORDS];
+    for (i, word) in words.iter_mut().enumerate() {
+        *word = word_at(line, WORD_DIGITS * i);
     }
+    words
 }
 
-// The count of each two words: vectorised, unlike a loop that also makes the words.
-fn fill_words(words: &[u32], row: &mut [u32])
-    requires { (length words.now ≡ 2 * map_columns) × (length row.old ≡ map_columns) }
-    ensures { row.new ≡ tabulate (λ k. number_of_words (get_or words.now (2 * k) 0) (get_or words.now (2 * k + 1) 0)) map_columns }
-{
-    let mut k = 0;
-    while k < MAP_COLUMNS {
-        row[k] = number_of_words(words[2 * k], words[2 * k + 1]);
-        k += 1;
-    }
-}
-
-// The counts of one line.
+// The counts of one line. Vectorised, unlike a loop that also makes the words. The row is a part of all counts, lent by its places: of a
+// slice after as_chunks_mut no proof knows its elements.
 fn fill_row(line: &[u8], row: &mut [u32])
     requires { (length line.now ≡ line_digits count_lines) × (length row.old ≡ map_columns) }
     ensures { row.new ≡ fields_at count_lines.widths line.now 0 }
 {
-    let mut words = [0u32; WORDS];
-    words_of(line, &mut words);
-    fill_words(&words, row);
+    let words = words_of(line);
+    for (k, count) in row.iter_mut().enumerate() {
+        *count = number_of_words(words[2 * k], words[2 * k + 1]);
+    }
 }
 
-pub(crate) fn fill_counts(text: &[u8], counts: &mut [u32])
-    requires { (length text.now ≡ text_len) × (length counts.old ≡ map_cells) }
+pub(crate) fn fill_counts(text: &[u8; TEXT_LENGTH], counts: &mut [u32; MAP_CELLS])
     ensures { counts.new ≡ counts_of text.now }
 {
-    let mut r = 0;
-    while r < MAP_ROWS {
+    for r in 0..MAP_ROWS {
         let at = COUNTS_START + COUNT_LINE * r;
         let to = MAP_COLUMNS * r;
         fill_row(
             &text[at..at + COUNT_LINE_DIGITS],
             &mut counts[to..to + MAP_COLUMNS],
         );
-        r += 1;
     }
 }

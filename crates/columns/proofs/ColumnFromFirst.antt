@@ -1,5 +1,5 @@
 -- The column and the flag as the code finds them, from the first limit on.
-use mathlib.Core.Path.{◌≡◌, refl, ap, ap₂, sym, ◌∙◌}
+use mathlib.Core.Path.{◌≡◌, refl, sym, ◌∙◌}
 use mathlib.Core.Bool.{cond}
 use mathlib.Core.Logic.{⊎_elim}
 use Prim.Native.Nat.{ℕ, zero, suc, ◌+◌, ◌-◌, ◌≤◌, ◌<◌}
@@ -9,10 +9,12 @@ use borrow.Author.Tests.{le-leb, lt-leb, le-ltb, lt-ltb}
 use lib.Dec.{leb, ltb}
 use lib.ListN.{drop}
 use mir.Val.{bool_byte}
+use Rattle.std.proofs.Common.{None, Some}
 use Rattle.arithmetic.proofs.TestLaws.{lt_or_le}
-use Rattle.columns.specs.Column.{column_count, limits, limit_at, first_from, column_by, column_of, flag_of, column_and_flag, column_and_flag_of}
+use Rattle.columns.specs.Column.{column_count, limits, limit_at, first_from, column_by, column_of, flag_of, column_and_flag, column_and_flag_of, column_found}
 use Rattle.columns.specs.declared.Bracket.{Bracket}
 use Rattle.columns.proofs.FirstInTable.{first_step}
+use Rattle.columns.proofs.ColumnLaws.{above_0}
 
 -- the column by the limits from k on
 unfoldable pub column_from : ℕ → ℕ → ℕ
@@ -52,12 +54,11 @@ module _ (area : Bracket) where
       unfolding flagged_to
       limit_passed h = rw (add-one k) (sym (rw (lt-leb area.high (limit_at k) h) at step) ∙ left, refl)
 
-      pub limit_met : {flagged : ℕ} → flagged ≡ flagged_to k → area.high ≤ limit_at k → column_and_flag (k + 1) (bool_byte (ltb area.low flagged)) ≡ column_and_flag_of area
+      pub limit_met : {flagged : ℕ} → flagged ≡ flagged_to k → area.high ≤ limit_at k → Some (column_and_flag (k + 1) (bool_byte (ltb area.low flagged))) ≡ column_found (column_and_flag_of area)
       limit_met f h =
           let column : column_of area.high ≡ suc k = sym left ∙ rw (le-leb area.high (limit_at k) h) at step in
-          ap₂ column_and_flag (add-one k ∙ sym column)
-          (ap (λ (n : ℕ). bool_byte (ltb area.low n)) f ∙ flag_is area.low k ∙ ap (flag_of area.low) (sym column))
+          simp (column, f, flag_is area.low k, add-one k, above_0 {n = suc k} (omega arith)) refl
 
-  pub no_limit : column_from area.high column_count ≡ column_of area.high → column_and_flag 0 0 ≡ column_and_flag_of area
-  unfolding column_from flag_of
-  no_limit e = ap₂ column_and_flag e (ap (flag_of area.low) e)
+  pub no_limit : column_from area.high column_count ≡ column_of area.high → None ≡ column_found (column_and_flag_of area)
+  unfolding column_from
+  no_limit e = simp (sym e) refl

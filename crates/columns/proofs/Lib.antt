@@ -5,5 +5,5 @@ pub mod ColumnLaws
 pub mod ColumnFromFirst
 pub mod ColumnAtMostHolds
 pub mod ExactColumnHolds
-pub mod SizeColumnFromLast
+pub mod SizePairsWalked
 pub mod SizeColumnPromiseHolds

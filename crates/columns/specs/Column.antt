@@ -1,5 +1,5 @@
 -- The column of the class table and the flag.
-use Rattle.std.specs.Prelude.{Bool, cond, List, [], ◌∷◌, ℕ, suc, ◌-◌, leb, ltb, get_or}
+use Rattle.std.specs.Prelude.{Bool, cond, List, [], ◌∷◌, ℕ, suc, ◌-◌, eqb, leb, ltb, get_or, Option, None, Some}
 use Rattle.columns.specs.declared.Bracket.{Bracket}
 use Rattle.columns.specs.declared.ColumnAndFlag.{ColumnAndFlag}
 
@@ -40,3 +40,7 @@ column_and_flag column flag = record { column = column; flag = flag }
 -- the column and the flag of an area
 abbrev pub column_and_flag_of : Bracket → ColumnAndFlag
 column_and_flag_of area = column_and_flag (column_of area.high) (flag_of area.low (column_of area.high))
+
+-- what the code gives for them: "above the last limit" no column is found
+abbrev pub column_found : ColumnAndFlag → Option ColumnAndFlag
+column_found c = cond (eqb c.column 0) None (Some c)

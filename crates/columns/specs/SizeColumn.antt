@@ -1,5 +1,5 @@
 -- The size column of document 02, item 1: "Crews ask why the area route was taken at all."
-use Rattle.std.specs.Prelude.{Bool, ◌&&◌, List, [], ◌∷◌, ℕ, leb, get_or}
+use Rattle.std.specs.Prelude.{Bool, cond, ◌&&◌, List, [], ◌∷◌, ℕ, eqb, leb, get_or, Option, None, Some}
 use Rattle.columns.specs.Column.{first_from}
 use Rattle.columns.specs.declared.SizePair.{SizePair}
 
@@ -21,3 +21,7 @@ large_enough w v pair = leb w pair.dimension && leb v pair.speed
 -- "the first of five whose dimension and speed are both at least the aircraft's"; "0 where none is large enough"
 unfoldable pub size_column_of : ℕ → ℕ → ℕ
 size_column_of w v = first_from (large_enough w v) 1 size_pairs
+
+-- what the code gives for it: none where it is 0
+abbrev pub size_column_found : ℕ → Option ℕ
+size_column_found n = cond (eqb n 0) None (Some n)

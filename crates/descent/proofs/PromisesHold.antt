@@ -9,8 +9,8 @@ use native.Mathlib.Omega.{arith}
 use lib.Dec.{eqb, lit≤}
 use borrow.Author.Tests.{eqb-true, eqb-false}
 use Rattle.arithmetic.specs.Conditions.{outside}
-use Rattle.arithmetic.specs.Refusals.{Test, first_refusal, FirstToHold, OneOf}
-use Rattle.arithmetic.proofs.RefusalLaws.{first_exactly_when, use_of, first_listed, one_of_more, one_of_le, refused_by, accepted_by}
+use Rattle.refusal.specs.Refusals.{Test, first_refusal, FirstToHold, OneOf}
+use Rattle.refusal.proofs.RefusalLaws.{first_exactly_when, use_of, first_listed, one_of_more, one_of_le, refused_by, accepted_by}
 use Rattle.arithmetic.proofs.TestLaws.{lt_or_le, neither, inside, not_outside}
 use Rattle.sheet.proofs.RangeLaws.{within, tests_fail}
 use Rattle.frontal_area.specs.FrontalArea.{first_dimension, last_dimension}

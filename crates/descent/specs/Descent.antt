@@ -1,14 +1,17 @@
 -- The descent from the operating height and its refusals (document 02, item 4).
-use Rattle.std.specs.Prelude.{Bool, cond, ◌||◌, List, [], ◌∷◌, ◌++◌, ℕ, zero, suc, Float}
+use Rattle.std.specs.Prelude.{Bool, cond, ◌||◌, List, [], ◌∷◌, ◌++◌, ℕ, zero, suc, Float, Result}
 use Rattle.std.specs.Float.{binary64}
 use Rattle.std.specs.Float.Ieee.{mul, lt, le}
 use Rattle.arithmetic.specs.Conditions.{outside}
-use Rattle.arithmetic.specs.Refusals.{Test, ◌when◌, answered}
+use Rattle.refusal.specs.Numbers.{answer_as}
+use Rattle.refusal.specs.Refusals.{Test, ◌when◌, answered}
+use Rattle.refusal.specs.declared.Refusal.{Refusal}
 use Rattle.frontal_area.specs.FrontalArea.{frontal_area_of, multirotor_tests}
 use Rattle.fall.specs.Numbers.{whole, in_metres, in_kilograms, in_square_metres}
 use Rattle.fall.specs.Step.{drag_factor_of, next_state}
 use Rattle.fall.specs.declared.Fall.{Fall}
 use Rattle.descent.specs.declared.Descent.{Descent}
+use Rattle.descent.specs.declared.Landing.{Landing}
 use Rattle.fall.specs.declared.Body.{Body}
 
 -- the falling aircraft, of its dimension and mass
@@ -45,6 +48,13 @@ refused_descent n =
       steps = 0;
       end = record { horizontal = whole 0; downward = whole 0; fallen = whole 0 };
     }
+
+-- what an answer of the code stands for: "a definition tells you this paper's number and values for each of its cases"
+abbrev pub landed_answer : Landing → Descent
+landed_answer l = record { refusal = 0; above_60 = cond l.above_60 1 0; steps = l.steps; end = l.end }
+
+abbrev pub descent_answer : Result Landing Refusal → Descent
+descent_answer = answer_as landed_answer refused_descent
 
 -- The fall from the state s, which n steps made, with so many steps left in the budget. "The fall ends at the first state whose distance is at least the
 -- height. [..] 18 when the definition's state after the whole budget is still short of the height. 19 when a step makes either speed negative, tested at each

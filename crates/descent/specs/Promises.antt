@@ -1,7 +1,7 @@
 -- What is promised of every descent.
 use Rattle.std.specs.Prelude.{◌≡◌, ◌↔◌, true, false, cond, [], ◌∷◌, ℕ, ◌^◌, ◌≤◌, ◌<◌}
 use Rattle.arithmetic.specs.Fraction.{◌over◌}
-use Rattle.arithmetic.specs.Refusals.{FirstToHold, OneOf, numbers}
+use Rattle.refusal.specs.Refusals.{FirstToHold, OneOf, numbers}
 use Rattle.frontal_area.specs.FrontalArea.{MultirotorInRange}
 use Rattle.fall.specs.Numbers.{decimal, divided_by, in_metres}
 use Rattle.fall.specs.Step.{state_after}

@@ -2,23 +2,51 @@
 #![tactic(auto)]
 
 ghost use Rattle.std.specs.Prelude.{◌≡◌};
-ghost use Rattle.descent.specs.Descent.{body_of, first_state, landed, refused_descent, fall_from, descent_of};
+ghost use Rattle.descent.specs.Descent.{body_of, first_state, landed, landed_answer, descent_answer, fall_from, descent_of};
 
 mod predict;
 
-use crate::predict::{Progress, Speeds, confirmed_steps, with_latest};
+use crate::predict::{Progress, Speeds};
 use fall::{Body, Fall, speed_of, step};
-use frontal_area::{frontal_area, multirotor_refusal};
+use frontal_area::{check_multirotor, frontal_area};
+use refusal::Refusal;
+use sheet::Aircraft;
 
-// A refusal number, 0 for none. Then whether the angle at the ground is above 60 degrees, 1 or 0; the number of steps; the end state. All
-// zeros where it is refused.
-#[repr(C)]
+// Where and how a fall ends: whether the angle at the ground is above 60 degrees, the number of steps, and the end state.
 #[derive(Clone, Copy)]
+pub struct Landing {
+    pub above_60: bool,
+    pub steps: u32,
+    pub end: Fall,
+}
+
+// The answer for C, by the words of document 02: a refusal number, 0 for none; then the landing, the verdict as 1 or 0. All zeros where it is refused.
+#[repr(C)]
+#[derive(Clone, Copy, Default)]
 pub struct Descent {
     pub refusal: u8,
     pub above_60: u8,
     pub steps: u32,
     pub end: Fall,
+}
+
+impl From<Result<Landing, Refusal>> for Descent {
+    ghost from_gives = { λ r a. a ≡ descent_answer r };
+
+    fn from(answer: Result<Landing, Refusal>) -> Descent {
+        match answer {
+            Ok(landing) => Descent {
+                refusal: 0,
+                above_60: landing.above_60.into(),
+                steps: landing.steps,
+                end: landing.end,
+            },
+            Err(refusal) => Descent {
+                refusal: refusal.into(),
+                ..Descent::default()
+            },
+        }
+    }
 }
 
 // in cm
@@ -27,75 +55,64 @@ const HEIGHT_MAX: u32 = 50_000;
 // in steps
 const BUDGET_MAX: u32 = 20_000;
 
-fn refused_with(refusal: u8) -> Descent
-    ensures { result ≡ refused_descent refusal }
+fn landed_after(steps: u32, end: Fall) -> Landing
+    ensures { landed_answer result ≡ landed steps end }
 {
-    let end = Fall {
-        horizontal: 0.0,
-        downward: 0.0,
-        fallen: 0.0,
-    };
-    Descent {
-        refusal,
-        above_60: 0,
-        steps: 0,
-        end,
-    }
-}
-
-fn landed_after(steps: u32, end: Fall) -> Descent
-    ensures { result ≡ landed steps end }
-{
-    let steep = end.downward * end.downward > 3.0 * (end.horizontal * end.horizontal);
-    let above_60 = steep as u8;
-    Descent {
-        refusal: 0,
+    let above_60 = end.downward * end.downward > 3.0 * (end.horizontal * end.horizontal);
+    Landing {
         above_60,
         steps,
         end,
     }
 }
 
-// The fall from a first state, of at most so many steps as the budget has. Here each step is taken that a prediction didn't foresee, and
-// every one that ends the fall.
-fn fall_from(b: Body, height: f64, budget: u32, first: Fall) -> Descent
-    ensures { result ≡ fall_from b height budget 0 first }
-{
-    let mut at = Progress {
-        state: first,
-        steps: 0,
-        speeds: Speeds(0.0, 0.0, 0.0, 0.0),
-    };
-    while at.steps < budget {
-        let state = step(b, at.state);
-        let steps = at.steps + 1;
-        if (state.horizontal < 0.0) | (state.downward < 0.0) {
-            return refused_with(19);
-        }
-        if state.fallen >= height {
-            return landed_after(steps, state);
-        }
-        let terminal = state.downward == at.state.downward;
-        let speeds = with_latest(at.speeds, speed_of(at.state));
-        at = confirmed_steps(
-            b,
-            height,
-            budget,
-            terminal,
-            Progress {
-                state,
-                steps,
-                speeds,
-            },
-        );
-    }
-    refused_with(18)
+// A fall that is to be made: the height is in m, the budget in steps.
+#[derive(Clone, Copy)]
+struct Course {
+    body: Body,
+    height: f64,
+    budget: u32,
 }
 
-fn body(dimension: u64, mass: u32) -> Body
+impl Course {
+    // The fall from a first state. Here each step is taken that a prediction didn't foresee, and every one that ends the fall. A turn
+    // takes a varying number of steps, so the loop counts none.
+    fn fall_from(self, first: Fall) -> Result<Landing, Refusal>
+        ensures { descent_answer result ≡ fall_from self.body self.height self.budget 0 first }
+    {
+        let mut at = Progress {
+            state: first,
+            steps: 0,
+            speeds: Speeds(0.0, 0.0, 0.0, 0.0),
+        };
+        while at.steps < self.budget {
+            let state = step(self.body, at.state);
+            let steps = at.steps + 1;
+            if (state.horizontal < 0.0) | (state.downward < 0.0) {
+                return Err(Refusal::NegativeSpeed);
+            }
+            if state.fallen >= self.height {
+                return Ok(landed_after(steps, state));
+            }
+            let terminal = state.downward == at.state.downward;
+            let speeds = at.speeds.with_latest(speed_of(at.state));
+            at = self.confirmed_steps(
+                terminal,
+                Progress {
+                    state,
+                    steps,
+                    speeds,
+                },
+            );
+        }
+        Err(Refusal::BudgetSpent)
+    }
+}
+
+fn body(dimension: u32, mass: u32) -> Body
     ensures { result ≡ body_of dimension mass }
 {
-    let area = frontal_area(dimension) as f64 / 1_000_000.0;
+    let area = frontal_area(dimension as u64) as f64 / 1_000_000.0;
     Body {
         drag_factor: 0.5 * 1.225 * area * 0.8,
         mass: mass as f64 / 1_000.0,
@@ -112,18 +129,19 @@ fn first_state(speed: u32) -> Fall
     }
 }
 
-// The descent of a multirotor: dimension in mm, mass in g, speed in cm/s, height in cm, and the largest number of steps. Refusals: 1
-// dimension, 2 mass, 3 speed, 16 no frontal area, 17 height or budget; 19 a negative speed, 18 the budget spent.
-pub fn descent_of(dimension: u32, mass: u32, speed: u32, height: u32, budget: u32) -> Descent
-    ensures { result ≡ descent_of dimension mass speed height budget }
+// The descent of a multirotor: height in cm, and the largest number of steps. Refusals: 1 dimension, 2 mass, 3 speed, 16 no frontal
+// area, 17 height or budget; 19 a negative speed, 18 the budget spent.
+pub fn descent_of(aircraft: Aircraft, height: u32, budget: u32) -> Result<Landing, Refusal>
+    ensures { descent_answer result ≡ descent_of aircraft.dimension aircraft.mass aircraft.speed height budget }
 {
-    let refusal = multirotor_refusal(dimension, mass, speed);
-    if refusal != 0 {
-        return refused_with(refusal);
-    }
+    check_multirotor(aircraft)?;
     if ((height < 1) | (HEIGHT_MAX < height)) | ((budget < 1) | (BUDGET_MAX < budget)) {
-        return refused_with(17);
+        return Err(Refusal::HeightOrBudget);
     }
-    let b = body(dimension as u64, mass);
-    fall_from(b, height as f64 / 100.0, budget, first_state(speed))
+    let course = Course {
+        body: body(aircraft.dimension, aircraft.mass),
+        height: height as f64 / 100.0,
+        budget,
+    };
+    course.fall_from(first_state(aircraft.speed))
 }

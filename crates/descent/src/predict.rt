@@ -5,7 +5,8 @@ ghost use Rattle.std.specs.Prelude.{◌≡◌, ◌-◌, ◌≤◌};
 ghost use Rattle.descent.specs.Descent.{fall_from};
 ghost use Rattle.descent.specs.PrivatePredicted.{Predicted, in_flight, same_speeds};
 
-use fall::{Body, Fall, step_of_two};
+use crate::Course;
+use fall::{Fall, step_of_two};
 
 // The speeds of the last four states, the latest first, found or predicted.
 #[derive(Clone, Copy)]
@@ -19,8 +20,10 @@ pub struct Progress {
     pub speeds: Speeds,
 }
 
-pub fn with_latest(v: Speeds, latest: f64) -> Speeds {
-    Speeds(latest, v.0, v.1, v.2)
+impl Speeds {
+    pub fn with_latest(self, latest: f64) -> Speeds {
+        Speeds(latest, self.0, self.1, self.2)
+    }
 }
 
 // The speed of a state: the polynomial through the last four, and from there half a round towards the root.
@@ -48,52 +51,48 @@ fn predicted(slowing_factor: f64, terminal: bool, s: Fall, speed: f64) -> Fall
     }
 }
 
-// Above zero two f64 that compare as equal are the same; 0 and -0 compare as equal and aren't.
-fn in_flight(height: f64, s: Fall) -> bool
-    ensures { result ≡ in_flight height s }
-{
-    ((0.0 < s.horizontal) & (0.0 < s.downward)) & !(s.fallen >= height)
-}
-
 fn same_speeds(s: Fall, t: Fall) -> bool
     ensures { result ≡ same_speeds s t }
 {
     (s.horizontal == t.horizontal) & (s.downward == t.downward)
 }
 
-// Steps on, two at a time, as long as both are confirmed and in the air: what is left of the fall is the same. It begins with four
-// speeds, and with a horizontal speed above zero.
-pub fn confirmed_steps(
-    b: Body,
-    height: f64,
-    budget: u32,
-    terminal: bool,
-    from: Progress,
-) -> Progress
-    requires { from.steps ≤ budget }
-    ensures { (from.steps ≤ result.steps) × (result.steps ≤ budget)
-        × (fall_from b height (budget - from.steps) from.steps from.state ≡ fall_from b height (budget - result.steps) result.steps result.state) }
-{
-    let slowing_factor = b.drag_factor / b.mass * 0.01;
-    let mut at = from;
-    while ((1 < budget - at.steps) & (3 < at.steps)) & (0.0 < at.state.horizontal) {
-        let speed = predicted_speed(at.speeds, at.state);
-        let one = predicted(slowing_factor, terminal, at.state, speed);
-        let speeds = with_latest(at.speeds, speed);
-        let next_speed = predicted_speed(speeds, one);
-        let two = predicted(slowing_factor, terminal, one, next_speed);
-        if !(in_flight(height, one) & in_flight(height, two)) {
-            return at;
-        }
-        let exact = step_of_two(b, at.state, one);
-        if !(same_speeds(exact.first, one) & same_speeds(exact.second, two)) {
-            return at;
-        }
-        at = Progress {
-            state: two,
-            steps: at.steps + 2,
-            speeds: with_latest(speeds, next_speed),
-        };
+impl Course {
+    // Above zero two f64 that compare as equal are the same; 0 and -0 compare as equal and aren't.
+    fn in_flight(self, s: Fall) -> bool
+        ensures { result ≡ in_flight self.height s }
+    {
+        ((0.0 < s.horizontal) & (0.0 < s.downward)) & !(s.fallen >= self.height)
     }
-    at
+
+    // Steps on, two at a time, as long as both are confirmed and in the air: what is left of the fall is the same. It begins with four
+    // speeds, and with a horizontal speed above zero. Each turn takes two steps or ends the loop, so it counts none by itself.
+    pub fn confirmed_steps(self, terminal: bool, from: Progress) -> Progress
+        requires { from.steps ≤ self.budget }
+        ensures { (from.steps ≤ result.steps) × (result.steps ≤ self.budget)
+            × (fall_from self.body self.height (self.budget - from.steps) from.steps from.state ≡ fall_from self.body self.height (self.budget - result.steps) result.steps result.state) }
+    {
+        let slowing_factor = self.body.drag_factor / self.body.mass * 0.01;
+        let mut at = from;
+        while ((1 < self.budget - at.steps) & (3 < at.steps)) & (0.0 < at.state.horizontal) {
+            let speed = predicted_speed(at.speeds, at.state);
+            let one = predicted(slowing_factor, terminal, at.state, speed);
+            let speeds = at.speeds.with_latest(speed);
+            let next_speed = predicted_speed(speeds, one);
+            let two = predicted(slowing_factor, terminal, one, next_speed);
+            if !(self.in_flight(one) & self.in_flight(two)) {
+                return at;
+            }
+            let exact = step_of_two(self.body, at.state, one);
+            if !(same_speeds(exact.0, one) & same_speeds(exact.1, two)) {
+                return at;
+            }
+            at = Progress {
+                state: two,
+                steps: at.steps + 2,
+                speeds: speeds.with_latest(next_speed),
+            };
+        }
+        at
+    }
 }

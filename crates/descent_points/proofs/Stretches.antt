@@ -7,8 +7,8 @@ use native.Mathlib.Omega.{arith}
 use lib.Dec.{eqb}
 use borrow.Author.Tests.{ne_eqb}
 use lib.Ieee.{Float, binary64, of_bits, add, sub, mul, div, eq}
-use Rattle.arithmetic.specs.Refusals.{first_refusal}
-use Rattle.arithmetic.proofs.RefusalLaws.{by_number}
+use Rattle.refusal.specs.Refusals.{first_refusal}
+use Rattle.refusal.proofs.RefusalLaws.{by_number}
 use Rattle.fall.specs.Numbers.{whole, in_metres}
 use Rattle.fall.specs.Step.{next_guess, after_rounds, speed_of, drag_per_speed, slowing, next_horizontal, next_downward, next_fallen, next_state, state_after}
 use Rattle.fall.proofs.Literals.{zero_is, half_is, time_step_is, gravity_is}

@@ -10,7 +10,9 @@ use Rattle.arithmetic.proofs.FractionLaws.{plus_pos, times_pos}
 use Rattle.columns.specs.Column.{last_limit}
 use Rattle.columns.proofs.ExactColumnHolds.{exact_column_lem}
 use Rattle.sheet.specs.Ranges.{InRange}
-use Rattle.sheet.specs.Lines.{Formula, whole, six_tenths, glide_only, formula_of}
+use Rattle.sheet.specs.declared.Formula.{Formula}
+use Rattle.sheet.specs.declared.Formula.TheVariants.{Whole, SixTenths, GlideOnly}
+use Rattle.sheet.specs.Lines.{formula_of}
 use Rattle.sheet.specs.Sheet.{lines_of, sheet_of}
 use Rattle.sheet.specs.declared.SheetAnswer.{SheetAnswer}
 use Rattle.sheet.specs.Acceptance.{RefusedExactlyWhen}
@@ -41,9 +43,9 @@ whole_pos d g s hd hg hs =
 
 in_pos : (f : Formula) (d g s : Fraction) → 0 < d.den → 0 < g.den → 0 < s.den → 0 < (exact_by f d g s).den
 unfolding exact_by
-in_pos whole d g s hd hg hs = whole_pos d g s hd hg hs
-in_pos six_tenths d g s hd hg hs = times_pos (6 over 10) _ (lit< tt) (whole_pos d g s hd hg hs)
-in_pos glide_only d g s hd hg hs =
+in_pos Whole d g s hd hg hs = whole_pos d g s hd hg hs
+in_pos SixTenths d g s hd hg hs = times_pos (6 over 10) _ (lit< tt) (whole_pos d g s hd hg hs)
+in_pos GlideOnly d g s hd hg hs =
     plus_pos _ _ (times_pos _ _ (times_pos (2 over 1) d (lit< tt) hd) hg)
     (times_pos (1 over 2) _ (lit< tt) (times_pos (314 over 100) _ (lit< tt) (times_pos d d hd hd)))
 

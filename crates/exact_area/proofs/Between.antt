@@ -3,7 +3,9 @@ use Prim.Native.Nat.{ℕ, ◌-◌, ◌*◌, ◌^◌, ◌≤◌, ◌<◌}
 use native.Mathlib.Omega.{arith}
 use lib.Dec.{lit≤, lit<}
 use Rattle.arithmetic.specs.Fraction.{Fraction, ◌over◌, plus, minus, times, divided, ◌⊑◌}
-use Rattle.sheet.specs.Lines.{Formula, whole, six_tenths, glide_only, full_width, glide_of, run_rate, run_scale, run_of, saving_of, slide_of, formula_of, area_den}
+use Rattle.sheet.specs.declared.Formula.{Formula}
+use Rattle.sheet.specs.declared.Formula.TheVariants.{Whole, SixTenths, GlideOnly}
+use Rattle.sheet.specs.Lines.{full_width, glide_of, run_rate, run_scale, run_of, saving_of, slide_of, formula_of, area_den}
 use Rattle.sheet.specs.Sheet.{lines_of}
 use Rattle.sheet.proofs.FormulaLaws.{denominator_pos}
 use Rattle.sheet.proofs.LineLaws.{run_rounded_down, run_rounded_up, saving_rounded_down, saving_rounded_up, area_num_at, area_rounded_down, area_rounded_up}
@@ -100,21 +102,21 @@ line6 f a glide slide = area_num_at f a glide slide over area_den f
 
 line6_from : (f : Formula) (a g s : ℕ) → line6 f a g s ⊑ area_at f a g s
 unfolding line6 area_at exact_by whole_area plus times
-line6_from whole a g s = omega arith
-line6_from six_tenths a g s = omega arith
-line6_from glide_only a g s = omega arith
+line6_from Whole a g s = omega arith
+line6_from SixTenths a g s = omega arith
+line6_from GlideOnly a g s = omega arith
 
 line6_to : (f : Formula) (a g s : ℕ) → area_at f a g s ⊑ line6 f a g s
 unfolding line6 area_at exact_by whole_area plus times
-line6_to whole a g s = omega arith
-line6_to six_tenths a g s = omega arith
-line6_to glide_only a g s = omega arith
+line6_to Whole a g s = omega arith
+line6_to SixTenths a g s = omega arith
+line6_to GlideOnly a g s = omega arith
 
 area_at_pos : (f : Formula) (a g s : ℕ) → 0 < (area_at f a g s).den
 unfolding area_at exact_by whole_area plus times
-area_at_pos whole a g s = lit< tt
-area_at_pos six_tenths a g s = lit< tt
-area_at_pos glide_only a g s = lit< tt
+area_at_pos Whole a g s = lit< tt
+area_at_pos SixTenths a g s = lit< tt
+area_at_pos GlideOnly a g s = lit< tt
 
 -- The accuracy of line 6: the low area is at most the exact one, and the high one at least.
 module _ (w m v : ℕ) where

@@ -2,7 +2,9 @@
 use Rattle.std.specs.Prelude.{Bool, ℕ, ◌*◌, leb}
 use Rattle.arithmetic.specs.Fraction.{Fraction, ◌over◌, plus, minus, times, divided}
 use Rattle.columns.specs.Column.{column_by}
-use Rattle.sheet.specs.Lines.{Formula, whole, six_tenths, glide_only, formula_of}
+use Rattle.sheet.specs.declared.Formula.{Formula}
+use Rattle.sheet.specs.declared.Formula.TheVariants.{Whole, SixTenths, GlideOnly}
+use Rattle.sheet.specs.Lines.{formula_of}
 
 -- "tan is 0.7002075382, cos is 0.8191520443 (35 degrees, ten places; these decimals are the definition)"
 abbrev pub tan : Fraction
@@ -45,9 +47,9 @@ whole_area d glide slide =
 -- "w above 8,000: [that]. w above 1,000, up to 8,000: six tenths of the same. w up to 1,000: 2 × D × glide + half of 3.14 × D². No slide."
 -- Formulas (1), (2) and (3).
 unfoldable pub exact_by : Formula → Fraction → Fraction → Fraction → Fraction
-exact_by whole d glide slide = whole_area d glide slide
-exact_by six_tenths d glide slide = times (6 over 10) (whole_area d glide slide)
-exact_by glide_only d glide slide =
+exact_by Whole d glide slide = whole_area d glide slide
+exact_by SixTenths d glide slide = times (6 over 10) (whole_area d glide slide)
+exact_by GlideOnly d glide slide =
     plus (times (times (2 over 1) d) glide) (times (1 over 2) (times (314 over 100) (times d d)))
 
 -- "the exact area in square centimetres: 10,000 times the one above, never rounded. It stands as a whole numerator over a whole denominator"

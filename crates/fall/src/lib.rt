@@ -9,7 +9,7 @@ ghost use Rattle.std.specs.Float.Ieee.{mul};
 
 // The state: horizontal and downward speed in m/s, distance fallen in m.
 #[repr(C)]
-#[derive(Clone, Copy)]
+#[derive(Clone, Copy, Default)]
 pub struct Fall {
     pub horizontal: f64,
     pub downward: f64,
@@ -35,14 +35,12 @@ fn six_rounds(sum: f64, first: f64) -> f64
     ensures { result ≡ after_rounds 6 sum first }
 {
     let mut guess = next_guess(sum, first);
-    let mut n: u32 = 1;
-    while n < 6 {
+    for _round in 1..6_u32 {
         let next = next_guess(sum, guess);
         if next == guess {
             return next;
         }
         guess = next;
-        n += 1;
     }
     guess
 }
@@ -80,11 +78,9 @@ pub fn step(b: Body, s: Fall) -> Fall
     moved(b, s, speed_of(s))
 }
 
-#[derive(Clone, Copy)]
-struct Two(f64, f64);
-
-// Six rounds of two sums side by side, so that the processor works on both at once.
-fn six_rounds_of_two(sum: Two, first: Two) -> Two
+// Six rounds of two sums side by side, so that the processor works on both at once. One function for one sum and for two would take arrays,
+// with a loop over the lanes for each operation: no plainer. The test stands after the second round alone, since each waits for its round.
+fn six_rounds_of_two(sum: (f64, f64), first: (f64, f64)) -> (f64, f64)
     ensures { (result.0 ≡ after_rounds 6 sum.0 first.0) × (result.1 ≡ after_rounds 6 sum.1 first.1) }
 {
     let one = round_of_two(sum, first);
@@ -98,10 +94,10 @@ fn six_rounds_of_two(sum: Two, first: Two) -> Two
     round_of_two(sum, five)
 }
 
-fn round_of_two(sum: Two, guess: Two) -> Two
+fn round_of_two(sum: (f64, f64), guess: (f64, f64)) -> (f64, f64)
     ensures { (result.0 ≡ next_guess sum.0 guess.0) × (result.1 ≡ next_guess sum.1 guess.1) }
 {
-    Two(next_guess(sum.0, guess.0), next_guess(sum.1, guess.1))
+    (next_guess(sum.0, guess.0), next_guess(sum.1, guess.1))
 }
 
 // Whether doubling and halving are exact in all six rounds. This and `halved` are for rounds that keep twice their guess
@@ -112,43 +108,31 @@ fn in_range(sum: f64, first: f64) -> bool
     ((0.0 < sum) & (sum < 1_000_000_000.0)) & (0.001 < first)
 }
 
-fn halved(x: Two) -> Two
+fn halved(x: (f64, f64)) -> (f64, f64)
     ensures { (result.0 ≡ mul binary64 x.0 half) × (result.1 ≡ mul binary64 x.1 half) }
 {
-    Two(x.0 * 0.5, x.1 * 0.5)
+    (x.0 * 0.5, x.1 * 0.5)
 }
 
-fn speed_of_two(s: Fall, t: Fall) -> Two
+fn speed_of_two(s: Fall, t: Fall) -> (f64, f64)
     ensures { (result.0 ≡ speed_of s) × (result.1 ≡ speed_of t) }
 {
     if ((s.horizontal == 0.0) & (s.downward == 0.0))
         | ((t.horizontal == 0.0) & (t.downward == 0.0))
     {
-        return Two(speed_of(s), speed_of(t));
+        return (speed_of(s), speed_of(t));
     }
-    let sum = Two(
+    let sum = (
         s.horizontal * s.horizontal + s.downward * s.downward,
         t.horizontal * t.horizontal + t.downward * t.downward,
     );
-    six_rounds_of_two(
-        sum,
-        Two(s.horizontal + s.downward, t.horizontal + t.downward),
-    )
-}
-
-#[derive(Clone, Copy)]
-pub struct TwoFalls {
-    pub first: Fall,
-    pub second: Fall,
+    six_rounds_of_two(sum, (s.horizontal + s.downward, t.horizontal + t.downward))
 }
 
 // The states one step after each of two, worked side by side.
-pub fn step_of_two(b: Body, s: Fall, t: Fall) -> TwoFalls
-    ensures { (result.first ≡ next_state b s) × (result.second ≡ next_state b t) }
+pub fn step_of_two(b: Body, s: Fall, t: Fall) -> (Fall, Fall)
+    ensures { (result.0 ≡ next_state b s) × (result.1 ≡ next_state b t) }
 {
     let speeds = speed_of_two(s, t);
-    TwoFalls {
-        first: moved(b, s, speeds.0),
-        second: moved(b, t, speeds.1),
-    }
+    (moved(b, s, speeds.0), moved(b, t, speeds.1))
 }

@@ -1,26 +1,25 @@
 -- Laws of one cell and of sums and maxima of marked cells: marks, keys and masks.
-use mathlib.Core.Path.{◌≡◌, refl, sym, ap, ap₂, ◌∙◌}
+use mathlib.Core.Path.{◌≡◌, refl, sym, ap, ◌∙◌}
 use mathlib.Core.Logic.{⊎_elim}
 use mathlib.Core.Bool.{Bool, true, not, ◌||◌, ◌&&◌}
 use mathlib.Core.List.{List, []}
-use Prim.Native.Nat.{ℕ, zero, suc, ◌+◌, ◌-◌, ◌*◌, ◌/◌, ◌%◌, ◌^◌, ◌≤◌, ◌<◌, max}
+use Prim.Native.Nat.{ℕ, zero, suc, ◌+◌, ◌-◌, ◌*◌, ◌/◌, ◌%◌, ◌^◌, ◌≤◌, ◌<◌}
 use native.Mathlib.Nat.{le_of_eq, le_antisymm, le_trans, zero-mul, one-mul, mul-le-mul_right, mod-eq_of_lt, div-div-eq-div-mul}
 use native.Mathlib.Numerals.{add-one}
 use native.Mathlib.Omega.{arith}
 use borrow.Author.Tests.{lt-ltb, le-ltb, eqb-true}
-use lib.Bits.{bit_and, bit_or, and_mask, and_zero_r}
+use lib.Bits.{bit_and, and_mask, and_zero_r}
 use lib.Dec.{ltb, eqb}
-use lib.ListN.{length, get_or}
+use lib.ListN.{get_or}
 use lib.Pow.{pow-add}
-use lib.Signed.{lt_z}
-use mir.Syntax.{w32}
-use mir.Val.{to_z}
-use mir.ValLaws.{to_z_pos}
 use Rattle.arithmetic.specs.SumsAndMaxima.{sum_below, max_below}
 use Rattle.arithmetic.proofs.TestLaws.{lt_or_le, all_below, all_below_lem}
 use Rattle.arithmetic.proofs.SumLaws.{max_le, le_max}
 use Rattle.map.specs.Map.{largest_count, bit_at}
-use Rattle.footprint.specs.PrivateWalk.{Masks, mask_of}
+
+-- the mask of the cell j of four by their number n of four bits: 32 ones where the cell's bit is set, else 0
+abbrev mask_of : ℕ → ℕ → ℕ
+mask_of n j = n / 2 ^ (3 - j) % 2 * (2 ^ 32 - 1)
 
 -- ---- marks
 
@@ -98,24 +97,7 @@ masked (suc (suc m)) x h l = let wrong : ⊥ = omega arith in absurd wrong
 abbrev mask_test : List (List ℕ) → ℕ → ℕ → Bool
 mask_test masks n j = eqb (get_or (get_or masks n []) j 0) (mask_of n j)
 
-pub masks_are : (masks : List (List ℕ)) → length masks ≡ 16 → all_below (λ n. all_below (mask_test masks n) 4) 16 ≡ true → Masks masks
-masks_are masks e t = record {
-  numbers = e;
-  mask = λ n j h l. eqb-true _ _ (all_below_lem (mask_test masks n) 4 (all_below_lem (λ n. all_below (mask_test masks n) 4) 16 t n h) j l);
-}
-
--- below the sign bit a comparison of signed numbers is that of the numbers
-pub signed_less : (a b : ℕ) → a < 2 ^ 31 → b < 2 ^ 31 → lt_z (to_z w32 a) (to_z w32 b) ≡ ltb a b
-signed_less a b h k = ap₂ lt_z (to_z_pos w32 a h) (to_z_pos w32 b k)
-
--- of 0 and 1, "or" is the larger
-pub or_larger : (a b : ℕ) → a < 2 → b < 2 → bit_or a b ≡ max a b
-or_larger zero b h l = omega arith
-or_larger (suc zero) zero h l = refl
-or_larger (suc zero) (suc zero) h l = refl
-or_larger (suc zero) (suc (suc b)) h l = let wrong : ⊥ = omega arith in absurd wrong
-or_larger (suc (suc a)) b h l = let wrong : ⊥ = omega arith in absurd wrong
-
-pub or_four : (a b c d : ℕ) → a < 2 → b < 2 → c < 2 → d < 2 → bit_or (bit_or (bit_or a b) c) d ≡ max (max (max a b) c) d
-or_four a b c d ha hb hc hd =
-    rw (or_larger a b ha hb, or_larger (max a b) c (omega arith) hc) (or_larger (max (max a b) c) d (omega arith) hd)
+pub masks_are : (masks : List (List ℕ)) → all_below (λ n. all_below (mask_test masks n) 4) 16 ≡ true
+    → (n j : ℕ) → n < 16 → j < 4 → get_or (get_or masks n []) j 0 ≡ mask_of n j
+masks_are masks t n j h l =
+    eqb-true _ _ (all_below_lem (mask_test masks n) 4 (all_below_lem (λ n. all_below (mask_test masks n) 4) 16 t n h) j l)

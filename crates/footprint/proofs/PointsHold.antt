@@ -11,7 +11,7 @@ use lib.Bits.{shifted_even}
 use lib.Dec.{ltb, eqb}
 use lib.ListN.{get_or}
 use lib.Pow.{pow-add, shl-shr, pow_pos}
-use Rattle.arithmetic.proofs.RefusalLaws.{way_out}
+use Rattle.refusal.proofs.RefusalLaws.{way_out}
 use Rattle.arithmetic.proofs.TestLaws.{lt_or_le, none_any}
 use Rattle.arithmetic.proofs.SumLaws.{sum_first, max_first, first_first}
 use Rattle.map.specs.Size.{map_cells}

@@ -5,7 +5,7 @@ use Prim.Native.Nat.{ℕ, ◌*◌, ◌^◌, ◌≤◌, ◌<◌}
 use native.Mathlib.Nat.{le_of_eq, le_trans, le_of_suc-le-suc, mul-le-mul}
 use native.Mathlib.Omega.{arith}
 use lib.ListN.{get_or}
-use Rattle.arithmetic.proofs.RefusalsHold.{answer_promise}
+use Rattle.refusal.proofs.RefusalsHold.{answer_promise}
 use Rattle.arithmetic.proofs.SumLaws.{sum_le, sum_mono, max_mono}
 use Rattle.map.specs.Size.{map_cells, map_rows}
 use Rattle.map.specs.Map.{largest_count, Map, count_at, mark_at}

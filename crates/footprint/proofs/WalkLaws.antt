@@ -7,27 +7,35 @@ use native.Mathlib.Nat.{le_trans, le_of_suc-le-suc}
 use native.Mathlib.Omega.{arith}
 use borrow.Author.Tests.{lt-ltb, ne_eqb}
 use lib.Dec.{ltb, eqb}
-use lib.ListN.{length, get_or}
+use lib.ListN.{get_or}
 use Rattle.arithmetic.specs.Lists.{part}
 use Rattle.arithmetic.specs.SumsAndMaxima.{sum_below, max_below}
 use Rattle.arithmetic.specs.PrivateFirstMaximum.{first_max_below}
-use Rattle.arithmetic.proofs.TestLaws.{cond_le}
-use Rattle.arithmetic.proofs.PartLaws.{slice_length, slice_at}
+use Rattle.arithmetic.proofs.PartLaws.{slice_at}
 use Rattle.arithmetic.proofs.SumLaws.{sum_same, max_same, first_same, sum_add, sum_le, max_le, max_rows, first_rows, first_in_row}
-use Rattle.arithmetic.proofs.BestLaws.{best_first, best_one, best_le, best_lt, best_next, best_is_first, first_value}
+use Rattle.arithmetic.proofs.BestLaws.{best_first, best_one, best_lt, best_next, best_is_first, first_value}
 use Rattle.map.specs.Size.{map_cells, map_rows, map_columns}
+use Rattle.map.specs.GroundMap.{map_of}
 use Rattle.map.specs.Map.{largest_count, Map, count_at, bit_at, mark_at, cells_in}
 use Rattle.map.specs.TableRow.{table_row}
 use Rattle.map.specs.Refusals.{wrong_count}
 use Rattle.footprint.specs.Footprint.{people_at, highest_row, worst_place, accepted_footprint}
-use Rattle.footprint.specs.PrivateWalk.{key_max, key_at, row_key, marked_count, key_above, row_walk, with_row, largest_key_in, row_worse, worst_row, map_walk}
+use Rattle.footprint.specs.PrivateWalk.{key_at, row_key, marked_count, row_walk, with_row, largest_key_in, row_worse, worst_row, map_walk}
 use Rattle.footprint.specs.declared.row.RowWalk.{RowWalk}
 use Rattle.footprint.specs.declared.walk.MapWalk.{MapWalk}
+use Rattle.footprint.specs.declared.walk.MarkedMap.{MarkedMap}
 use Rattle.map.proofs.MarkLaws.{mark_lt, mark_here}
-use Rattle.map.proofs.TestsPassed.{counts_small}
+use Rattle.map.proofs.TestsPassed.{Passed, passed_by, counts_small}
 use Rattle.footprint.proofs.CellLaws.{marked_le, key_le}
-use Rattle.footprint.proofs.RowLaws.{above_pos, above_taken}
 use Rattle.footprint.proofs.WorstCellLaws.{some_key, place_is, highest_is, worst_count}
+
+-- no key is larger
+abbrev key_max : ℕ
+key_max = largest_count + 1
+
+-- what is known of a map and marks that aren't refused
+pub known : (m : MarkedMap) → Passed (map_of m.map) m.marks.now
+known m = passed_by (map_of m.map) m.marks.now (sym m.accepted) refl
 
 -- ---- a map row lent as a part of the map's counts
 
@@ -37,9 +45,6 @@ module _ (counts marks : List ℕ) (r : ℕ) where
 
   pub lent_at : (i : ℕ) → i < map_columns → count_at lent i ≡ count_at counts (map_columns * r + i)
   lent_at i l = slice_at counts (map_columns * r) map_columns i l
-
-  pub lent_length : map_columns * r + map_columns ≤ length counts → length lent ≡ map_columns
-  lent_length h = slice_length counts (map_columns * r) map_columns h
 
   pub lent_small : r < map_rows → wrong_count counts ≡ false → (i : ℕ) → i < map_columns → count_at lent i ≤ largest_count
   lent_small h s i l = omega (arith, lent_at i l, counts_small counts s (map_columns * r + i) (omega arith))
@@ -53,13 +58,13 @@ module _ (counts marks : List ℕ) (r : ℕ) where
   pub worst_here : max_below (row_key lent (get_or marks r 0)) map_columns ≡ largest_key_in counts marks r
   worst_here = max_same (row_key lent (get_or marks r 0)) (λ c. key_at counts marks (map_columns * r + c)) map_columns key_here
 
-  row_here : (limit : ℕ) → row_walk lent (get_or marks r 0) limit ≡ record {
-    worst = key_above limit (largest_key_in counts marks r);
+  row_here : row_walk lent (get_or marks r 0) ≡ record {
+    worst = largest_key_in counts marks r;
     people = sum_below (λ c. mark_at marks (map_columns * r + c) * count_at counts (map_columns * r + c)) map_columns;
     cells = sum_below (λ c. mark_at marks (map_columns * r + c)) map_columns;
   }
-  row_here limit =
-      let t = ap (key_above limit) worst_here in
+  row_here =
+      let t = worst_here in
       let p = sum_same (marked_count lent (get_or marks r 0)) (λ c. mark_at marks (map_columns * r + c) * count_at counts (map_columns * r + c)) map_columns
       (λ i l. ap₂ (λ (m x : ℕ). m * x) (mark_here marks r i l) (lent_at i l)) in
       let k = sum_same (bit_at (get_or marks r 0)) (λ c. mark_at marks (map_columns * r + c)) map_columns (mark_here marks r) in
@@ -111,32 +116,21 @@ module _ (counts marks : List ℕ) where
       ∙ sym (worst_at_lem (r + 1) (omega arith))
 
   module _ (c_in : wrong_count counts ≡ false) (r : ℕ) (l : r < map_rows) {w : MapWalk} (before : w ≡ map_walk counts marks r) where
-    pub row_in : w.row < map_rows
-    row_in = omega (arith, ap (λ (x : MapWalk). x.row) before, best_le (row_worse counts marks) r)
-
-    -- no key so far is above the largest
-    pub worst_small : w.worst ≤ key_max
-    worst_small =
-        rw (ap (λ (x : MapWalk). x.worst) before)
-        (cond_le (eqb r 0) (omega arith) (largest_small counts marks (worst_row counts marks r) (omega (arith, best_le (row_worse counts marks) r)) c_in))
-
-    module _ {b : RowWalk} (row : b ≡ row_walk (lent counts marks r) (get_or marks r 0) w.worst) where
+    module _ {b : RowWalk} (row : b ≡ row_walk (lent counts marks r) (get_or marks r 0)) where
       pub map_next : with_row w b r ≡ map_walk counts marks (r + 1)
       map_next =
           let e : map_columns * r + map_columns ≡ map_columns * (r + 1) = omega arith in
           let p = sym (sum_add (people_at counts marks) (map_columns * r) map_columns) ∙ ap (sum_below (people_at counts marks)) e in
           let k = sym (sum_add (mark_at marks) (map_columns * r) map_columns) ∙ ap (sum_below (mark_at marks)) e in
-          let t = above_taken (worst_at r) (largest_key_in counts marks r) (worst_at r)
-          ∙ next_worst r in
-          let s = ap (λ (t : Bool). cond t r (worst_row counts marks r)) (above_pos (worst_at r) (largest_key_in counts marks r))
-          ∙ next_row r in
-          let b_is = row ∙ ap (row_walk (lent counts marks r) (get_or marks r 0)) (ap (λ (x : MapWalk). x.worst) before) ∙ row_here counts marks r (worst_at r) in
+          let t = next_worst r in
+          let s = next_row r in
+          let b_is = row ∙ row_here counts marks r in
           ap₂ (λ (x : MapWalk) (y : RowWalk). with_row x y r) before b_is ∙ (λ i. record { worst = t i; row = s i; people = p i; cells = k i })
 
       -- the sums fit their types
-      pub map_fits : ((p : ℕ) → count_at counts p < 2 ^ 32) → (w.people + b.people < 2 ^ 64) × (w.cells + b.cells < 2 ^ 32)
-      map_fits h = (
-        omega (arith, ap (λ (x : MapWalk). x.people) map_next, sum_le (people_at counts marks) (2 ^ 32) (map_columns * (r + 1)) (λ i m. le_trans (marked_le (mark_at marks i) (count_at counts i) (mark_lt marks i)) (omega (arith, h i)))),
+      pub map_fits : (w.people + b.people < 2 ^ 64) × (w.cells + b.cells < 2 ^ 32)
+      map_fits = (
+        omega (arith, ap (λ (x : MapWalk). x.people) map_next, sum_le (people_at counts marks) largest_count (map_columns * (r + 1)) (λ i m. le_trans (marked_le (mark_at marks i) (count_at counts i) (mark_lt marks i)) (counts_small counts c_in i (omega arith)))),
         omega (arith, ap (λ (x : MapWalk). x.cells) map_next, sum_le (mark_at marks) 1 (map_columns * (r + 1)) (λ i m. le_of_suc-le-suc (mark_lt marks i))),
       )
 

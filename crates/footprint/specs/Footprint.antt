@@ -1,12 +1,15 @@
 -- Document 01, "The footprint on the map": "The answer".
-use Rattle.std.specs.Prelude.{Bool, not, ◌||◌, ◌&&◌, List, ℕ, ◌*◌, ltb}
-use Rattle.arithmetic.specs.Refusals.{answered}
+use Rattle.std.specs.Prelude.{Bool, not, ◌||◌, ◌&&◌, List, ℕ, ◌*◌, ltb, Result}
+use Rattle.refusal.specs.Numbers.{answer_as}
+use Rattle.refusal.specs.Refusals.{answered}
+use Rattle.refusal.specs.declared.Refusal.{Refusal}
 use Rattle.arithmetic.specs.SumsAndMaxima.{sum_below, max_below, first_best}
 use Rattle.map.specs.Size.{map_cells}
 use Rattle.map.specs.Map.{Map, count_at, mark_at, marked, cells_in}
 use Rattle.map.specs.TableRow.{row_at}
 use Rattle.map.specs.Refusals.{map_tests}
 use Rattle.footprint.specs.declared.Footprint.{Footprint}
+use Rattle.footprint.specs.declared.MarkedCells.{MarkedCells}
 
 -- "the highest row among marked cells"
 abbrev pub highest_row : Map → List ℕ → ℕ
@@ -44,6 +47,14 @@ accepted_footprint map marks = record {
   people = people_in map.counts marks;
   cells = cells_in marks;
 }
+
+-- what an answer of the code stands for: its numbers where it is accepted
+abbrev pub accepted_cells : MarkedCells → Footprint
+accepted_cells c = record { refusal = 0; row = c.row; place = c.place; people = c.people; cells = c.cells }
+
+-- "When an answer is an enum, a definition tells you this paper's number and values for each of its cases."
+abbrev pub footprint_answer : Result MarkedCells Refusal → Footprint
+footprint_answer = answer_as accepted_cells refused_footprint
 
 -- the footprint on a map, or its refusal
 unfoldable pub footprint_of : Map → List ℕ → Footprint

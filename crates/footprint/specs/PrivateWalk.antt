@@ -1,21 +1,16 @@
 -- What the walk over a map row, and over the map row by row, gives. Only private functions are stated by it.
-use Rattle.std.specs.Prelude.{◌≡◌, Bool, cond, List, [], ℕ, ◌+◌, ◌-◌, ◌*◌, ◌/◌, ◌%◌, ◌^◌, ◌<◌, max, ltb, eqb, length, get_or}
+use Rattle.std.specs.Prelude.{Bool, cond, List, ℕ, ◌+◌, ◌*◌, max, ltb, eqb}
 use Rattle.arithmetic.specs.SumsAndMaxima.{sum_below, max_below, first_best}
 use Rattle.map.specs.Size.{map_columns}
-use Rattle.map.specs.Map.{largest_count, count_at, bit_at, mark_at}
+use Rattle.map.specs.Map.{count_at, bit_at, mark_at}
 use Rattle.footprint.specs.Footprint.{people_at}
-use Rattle.footprint.specs.declared.row.Lane.{Lane}
-use Rattle.footprint.specs.declared.row.RowSum.{RowSum}
 use Rattle.footprint.specs.declared.row.RowWalk.{RowWalk}
+use Rattle.footprint.specs.declared.row.Tally.{Tally}
 use Rattle.footprint.specs.declared.walk.MapWalk.{MapWalk}
 
 -- within a row, what the marked cells are compared by: one more than the count, and 0 where a cell isn't marked
 abbrev pub key_at : List ℕ → List ℕ → ℕ → ℕ
 key_at counts marks p = mark_at marks p * (count_at counts p + 1)
-
--- no key is larger
-abbrev pub key_max : ℕ
-key_max = largest_count + 1
 
 -- the key of a map row's cell
 abbrev pub row_key : List ℕ → ℕ → ℕ → ℕ
@@ -25,47 +20,34 @@ row_key counts bits column = bit_at bits column * (count_at counts column + 1)
 abbrev pub marked_count : List ℕ → ℕ → ℕ → ℕ
 marked_count counts bits column = bit_at bits column * count_at counts column
 
--- the mask of the cell j of four by their number n of four bits: 32 ones where the cell's bit is set, else 0
-abbrev pub mask_of : ℕ → ℕ → ℕ
-mask_of n j = n / 2 ^ (3 - j) % 2 * (2 ^ 32 - 1)
+-- two tallies together
+abbrev pub joined : Tally → Tally → Tally
+joined a b = record { people = a.people + b.people; most = max a.most b.most }
 
--- the table of the masks
-pub record Masks (masks : List (List ℕ)) : Type 0 where
-  pub numbers : length masks ≡ 16
-  pub mask : (n j : ℕ) → n < 16 → j < 4 → get_or (get_or masks n []) j 0 ≡ mask_of n j
+-- the tally of a map row's cell
+abbrev pub cell_tally : List ℕ → ℕ → ℕ → Tally
+cell_tally counts bits column = record { people = marked_count counts bits column; most = marked_count counts bits column }
 
--- 1 where a count is above a limit, else 0
-abbrev pub above_limit : ℕ → ℕ → ℕ
-above_limit limit n = cond (ltb limit n) 1 0
-
--- a lane, and one cell more
-abbrev pub with_cell : Lane → ℕ → ℕ → Lane
-with_cell lane limit n = record { people = lane.people + n; above = max lane.above (above_limit limit n) }
-
--- a map row's people, and whether a marked count is above a limit
-abbrev pub row_sum : List ℕ → ℕ → ℕ → RowSum
-row_sum counts bits limit = record {
+-- a map row's people, and the largest of its marked counts
+abbrev pub row_tally : List ℕ → ℕ → Tally
+row_tally counts bits = record {
   people = sum_below (marked_count counts bits) map_columns;
-  above = ltb limit (max_below (marked_count counts bits) map_columns);
+  most = max_below (marked_count counts bits) map_columns;
 }
 
--- a key where it is above a limit, else 0
-abbrev pub key_above : ℕ → ℕ → ℕ
-key_above limit key = cond (ltb limit key) key 0
-
--- one map row: its 64 counts and its footprint row, and its largest key where that is above a limit
-abbrev pub row_walk : List ℕ → ℕ → ℕ → RowWalk
-row_walk counts bits limit = record {
-  worst = key_above limit (max_below (row_key counts bits) map_columns);
+-- one map row: its 64 counts and its footprint row
+abbrev pub row_walk : List ℕ → ℕ → RowWalk
+row_walk counts bits = record {
+  worst = max_below (row_key counts bits) map_columns;
   people = sum_below (marked_count counts bits) map_columns;
   cells = sum_below (bit_at bits) map_columns;
 }
 
--- the rows before the row r, and the row r, whose key isn't 0 where it is worse
+-- the rows before the row r, and the row r
 abbrev pub with_row : MapWalk → RowWalk → ℕ → MapWalk
 with_row w b r = record {
-  worst = cond (ltb 0 b.worst) b.worst w.worst;
-  row = cond (ltb 0 b.worst) r w.row;
+  worst = cond (ltb w.worst b.worst) b.worst w.worst;
+  row = cond (ltb w.worst b.worst) r w.row;
   people = w.people + b.people;
   cells = w.cells + b.cells;
 }

@@ -1,7 +1,7 @@
 -- What is promised of every footprint's answer, beyond its definition. The proofs are in proofs/PromisesHold.antt.
 use Rattle.std.specs.Prelude.{◌≡◌, List, ℕ, ◌*◌, ◌^◌, ◌≤◌, ◌<◌, length, get_or}
 use Rattle.std.specs.Int.Count.{ones}
-use Rattle.arithmetic.specs.Refusals.{AnswerPromise}
+use Rattle.refusal.specs.Refusals.{AnswerPromise}
 use Rattle.arithmetic.specs.SumsAndMaxima.{sum_below}
 use Rattle.map.specs.Size.{map_cells, map_rows}
 use Rattle.map.specs.Map.{largest_count, least_area, largest_area, Map, count_at, mark_at, area_at}

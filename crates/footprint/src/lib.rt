@@ -1,23 +1,32 @@
 // The footprint on the map: the marked cells' highest table row, first largest count, people and number.
 #![tactic(auto)]
 
-mod cell;
+mod masks;
 mod row;
 mod walk;
 
 ghost use Rattle.std.specs.Prelude.{◌≡◌};
-ghost use Rattle.arithmetic.specs.Refusals.{first_refusal};
+ghost use Rattle.map.specs.GroundMap.{map_of};
 ghost use Rattle.map.specs.Size.{map_rows};
-ghost use Rattle.map.specs.Refusals.{map_tests};
-ghost use Rattle.footprint.specs.Footprint.{refused_footprint, accepted_footprint, footprint_of};
+ghost use Rattle.footprint.specs.Footprint.{refused_footprint, accepted_cells, footprint_answer, accepted_footprint, footprint_of};
 ghost use Rattle.footprint.specs.PrivateWalk.{map_walk};
 
-use crate::row::first_worst;
-use crate::walk::{MapWalk, walk_map};
-use map::{MAP_COLUMNS, map_refusal, table_row};
+use crate::walk::{MapWalk, MarkedMap};
+use map::{GroundMap, MAP_COLUMNS, table_row};
+use refusal::Refusal;
 
-#[repr(C)]
+// The marked cells of a map: their highest table row, the place of the first with the largest count, their people and their number.
 #[derive(Clone, Copy)]
+pub struct MarkedCells {
+    pub row: u8,
+    pub place: u32,
+    pub people: u64,
+    pub cells: u32,
+}
+
+// The answer for C, by the words of document 01: a refusal number, 0 for none, and the marked cells, all zeros where it is refused.
+#[repr(C)]
+#[derive(Clone, Copy, Default)]
 pub struct Footprint {
     pub refusal: u8,
     pub row: u8,
@@ -27,45 +36,53 @@ pub struct Footprint {
 }
 
 impl Footprint {
-    // A refused footprint: all other numbers zero.
+    // A refused footprint for C: all other numbers zero.
     pub fn refused(refusal: u8) -> Footprint
         ensures { result ≡ refused_footprint refusal }
     {
         Footprint {
             refusal,
-            row: 0,
-            place: 0,
-            people: 0,
-            cells: 0,
+            ..Footprint::default()
+        }
+    }
+}
+
+impl From<Result<MarkedCells, Refusal>> for Footprint {
+    ghost from_gives = { λ r a. a ≡ footprint_answer r };
+
+    fn from(answer: Result<MarkedCells, Refusal>) -> Footprint {
+        match answer {
+            Ok(marked) => Footprint {
+                refusal: 0,
+                row: marked.row,
+                place: marked.place,
+                people: marked.people,
+                cells: marked.cells,
+            },
+            Err(refusal) => Footprint::refused(u8::from(refusal)),
         }
     }
 }
 
 // The answer from a walk over a whole map that isn't refused.
-fn accepted(counts: &[u32], marks: &[u64], area: u32, w: MapWalk) -> Footprint
-    requires { (first_refusal (map_tests (record { counts = counts.now; cell_area = area }) marks.now) ≡ 0) × (w ≡ map_walk counts.now marks.now map_rows) }
-    ensures { result ≡ accepted_footprint (record { counts = counts.now; cell_area = area }) marks.now }
+fn marked_cells(m: MarkedMap, w: MapWalk) -> MarkedCells
+    requires { w ≡ map_walk m.map.counts.now m.marks.now map_rows }
+    ensures { accepted_cells result ≡ accepted_footprint (map_of m.entry.map) m.entry.marks.now }
 {
-    let r = w.row;
-    let from = MAP_COLUMNS * r;
-    let to = from + MAP_COLUMNS;
-    let column = first_worst(&counts[from..to], marks[r], w.worst);
-    Footprint {
-        refusal: 0,
-        row: table_row(w.worst - 1, area),
-        place: (from + column) as u32,
+    let column = m.row(w.row).first_worst(w.worst);
+    MarkedCells {
+        row: table_row(w.worst - 1, m.map.cell_area).unwrap(),
+        place: (MAP_COLUMNS * w.row + column) as u32,
         people: w.people,
         cells: w.cells,
     }
 }
 
 // The footprint on the map, or its refusal.
-pub fn footprint_on_map(counts: &[u32], marks: &[u64], area: u32) -> Footprint
-    ensures { result ≡ footprint_of (record { counts = counts.now; cell_area = area }) marks.now }
+pub fn footprint_on_map(map: GroundMap, marks: &[u64]) -> Result<MarkedCells, Refusal>
+    ensures { footprint_answer result ≡ footprint_of (map_of map.entry) marks.now }
 {
-    let refusal = map_refusal(counts, marks, area);
-    if refusal != 0 {
-        return Footprint::refused(refusal);
-    }
-    accepted(counts, marks, area, walk_map(counts, marks))
+    map.check(marks)?;
+    let marked = MarkedMap { map, marks };
+    Ok(marked_cells(marked, marked.walk()))
 }

@@ -1,3 +1,4 @@
 pub mod FrameLawHolds
 pub mod WorkedLinesHold
 pub mod WaysOut
+pub mod LineLaws

@@ -1,7 +1,7 @@
 -- The printed frame of document 01, with the size column of document 02, item 1.
 use Rattle.std.specs.Prelude.{ℕ, ◌≡◌, Bool, cond, List, [], ◌∷◌, ◌++◌, eqb, ltb, ℤ, pos, negsuc, length}
 use Rattle.arithmetic.specs.Lists.{stored}
-use Rattle.arithmetic.specs.Refusals.{Test, ◌when◌, first_refusal, answered}
+use Rattle.refusal.specs.Refusals.{Test, ◌when◌, first_refusal, answered}
 use Rattle.hex_text.specs.Digits.{written, line_end}
 use Rattle.frame.specs.Layout.{refusal_width, area_width, column_width, flag_width, size_column_width, row_width, place_width, people_width, class_width, frame_len}
 use Rattle.frame.specs.declared.FrameFields.{FrameFields}

@@ -1,13 +1,14 @@
 // The printed frame.
 #![tactic(auto)]
 
-ghost use Rattle.std.specs.Prelude.{◌≡◌, ◌≤◌, length, take, drop};
+ghost use Rattle.std.specs.Prelude.{◌≡◌, ◌<◌, ◌++◌, length};
 ghost use Rattle.arithmetic.specs.Lists.{stored};
-ghost use Rattle.hex_text.specs.Digits.{written};
-ghost use Rattle.frame.specs.Layout.{column_start, place_start, frame_len};
-ghost use Rattle.frame.specs.Frame.{class_byte, frame_fields, frame_line, refusal_line, printed, WritingContract};
+ghost use Rattle.refusal.specs.Numbers.{number_in};
+ghost use Rattle.hex_text.specs.Digits.{written, line_end};
+ghost use Rattle.frame.specs.Frame.{class_byte, frame_fields, refusal_line, printed, WritingContract};
 
 use hex_text::{LINE_END, write_digits};
+use refusal::Refusal;
 
 // The digits of each field.
 const REFUSAL_WIDTH: usize = 2;
@@ -28,34 +29,23 @@ const PEOPLE_WIDTH: usize = 8;
 
 const CLASS_WIDTH: usize = 2;
 
-// Where each field starts: the refusal number, or 00, is first.
-const LOW: usize = REFUSAL_WIDTH;
+// How many fields a frame has.
+const FIELDS: usize = 11;
 
-const HIGH: usize = LOW + AREA_WIDTH;
-
-const COLUMN: usize = HIGH + AREA_WIDTH;
-
-const FLAG: usize = COLUMN + COLUMN_WIDTH;
-
-const SIZE_COLUMN: usize = FLAG + FLAG_WIDTH;
-
-const ROW: usize = SIZE_COLUMN + SIZE_COLUMN_WIDTH;
-
-const PLACE: usize = ROW + ROW_WIDTH;
-
-const PEOPLE: usize = PLACE + PLACE_WIDTH;
-
-const INTRINSIC: usize = PEOPLE + PEOPLE_WIDTH;
-
-const FINAL: usize = INTRINSIC + CLASS_WIDTH;
-
-// Where the line end stands, and how long the frame is.
-const END: usize = FINAL + CLASS_WIDTH;
-
-pub const FRAME_LENGTH: usize = END + 1;
+// How long the frame is with its line end.
+pub const FRAME_LENGTH: usize = REFUSAL_WIDTH
+    + 2 * AREA_WIDTH
+    + COLUMN_WIDTH
+    + FLAG_WIDTH
+    + SIZE_COLUMN_WIDTH
+    + ROW_WIDTH
+    + PLACE_WIDTH
+    + PEOPLE_WIDTH
+    + 2 * CLASS_WIDTH
+    + 1;
 
 // How long the line of a printed refusal is.
-pub const REFUSAL_LENGTH: usize = LOW + 1;
+pub const REFUSAL_LENGTH: usize = REFUSAL_WIDTH + 1;
 
 // The fields of a printed frame. Of a number that is longer than its field, the last digits are printed.
 #[repr(C)]
@@ -73,88 +63,71 @@ pub struct FrameFields {
     pub final_class: i8,
 }
 
-// A final class as a byte: -1 is ff.
+// A final class as a byte: -1 is ff. Not cast_unsigned: below -1 it gives other bytes.
 fn class_byte(c: i8) -> u8
     ensures { result ≡ class_byte c }
 {
-    if c < 0 { 255 } else { c as u8 }
+    u8::try_from(c).unwrap_or(255)
 }
 
-// The first fields: 00 and both areas. At most four parts a function keep its proof small.
-fn write_area_fields(buffer: &mut [u8], f: FrameFields)
-    requires { frame_len ≤ length buffer.old }
-    ensures { buffer.new ≡ stored 0 (written (take 3 (frame_fields f))) buffer.old }
+// A field: its digits, and the number in them.
+type Field = (usize, u64);
+
+// The fields in their order.
+fn frame_fields(f: FrameFields) -> [Field; FIELDS]
+    ensures { result ≡ frame_fields f }
 {
-    write_digits(&mut buffer[0..LOW], 0);
-    write_digits(&mut buffer[LOW..HIGH], f.low);
-    write_digits(&mut buffer[HIGH..COLUMN], f.high);
+    [
+        (REFUSAL_WIDTH, 0),
+        (AREA_WIDTH, f.low),
+        (AREA_WIDTH, f.high),
+        (COLUMN_WIDTH, f.column as u64),
+        (FLAG_WIDTH, f.flag as u64),
+        (SIZE_COLUMN_WIDTH, f.size_column as u64),
+        (ROW_WIDTH, f.row_used as u64),
+        (PLACE_WIDTH, f.place as u64),
+        (PEOPLE_WIDTH, f.people),
+        (CLASS_WIDTH, f.intrinsic as u64),
+        (CLASS_WIDTH, class_byte(f.final_class) as u64),
+    ]
 }
 
-// The fields after these: column, flag, size column and table row used.
-fn write_column_fields(buffer: &mut [u8], f: FrameFields)
-    requires { frame_len ≤ length buffer.old }
-    ensures { buffer.new ≡ stored column_start (written (take 4 (drop 3 (frame_fields f)))) buffer.old }
+// Writes fields, and a line end after them: takes the part for the first field off the front of the line, and keeps the rest for the
+// others. Not a loop: after one that carries the rest no proof knows what the whole line holds.
+fn write_line(fields: &[Field], line: &mut [u8])
+    requires { length (written fields.now) < length line.old }
+    ensures { line.new ≡ stored 0 (written fields.now ++ line_end) line.old }
 {
-    write_digits(&mut buffer[COLUMN..FLAG], f.column as u64);
-    write_digits(&mut buffer[FLAG..SIZE_COLUMN], f.flag as u64);
-    write_digits(&mut buffer[SIZE_COLUMN..ROW], f.size_column as u64);
-    write_digits(&mut buffer[ROW..PLACE], f.row_used as u64);
+    let Some(((width, number), others)) = fields.split_first() else {
+        line[0] = LINE_END;
+        return;
+    };
+    let (part, rest) = line.split_at_mut(*width);
+    write_digits(part, *number);
+    write_line(others, rest);
 }
 
-// The last fields: place, people and both classes.
-fn write_class_fields(buffer: &mut [u8], f: FrameFields)
-    requires { frame_len ≤ length buffer.old }
-    ensures { buffer.new ≡ stored place_start (written (drop 7 (frame_fields f))) buffer.old }
+// Writes a refusal at the start of the lent buffer, or refuses a buffer that is too short. The number is a u8 since C may pass any.
+pub fn write_refusal(refusal: u8, buffer: &mut [u8]) -> Result<(), Refusal>
+    ensures { WritingContract (refusal_line refusal) buffer.old (number_in result) buffer.new }
 {
-    let last = class_byte(f.final_class);
-    write_digits(&mut buffer[PLACE..PEOPLE], f.place as u64);
-    write_digits(&mut buffer[PEOPLE..INTRINSIC], f.people);
-    write_digits(&mut buffer[INTRINSIC..FINAL], f.intrinsic as u64);
-    write_digits(&mut buffer[FINAL..END], last as u64);
+    let Some(line) = buffer.first_chunk_mut::<FRAME_LENGTH>() else {
+        return Err(Refusal::FrameLength);
+    };
+    write_line(&[(REFUSAL_WIDTH, refusal as u64)], line);
+    Ok(())
 }
 
-fn write_fields(buffer: &mut [u8], f: FrameFields)
-    requires { frame_len ≤ length buffer.old }
-    ensures { buffer.new ≡ stored 0 (frame_line f) buffer.old }
-{
-    write_area_fields(buffer, f);
-    write_column_fields(buffer, f);
-    write_class_fields(buffer, f);
-    buffer[END] = LINE_END;
-}
-
-fn write_refusal_line(buffer: &mut [u8], refusal: u8)
-    requires { frame_len ≤ length buffer.old }
-    ensures { buffer.new ≡ stored 0 (refusal_line refusal) buffer.old }
-{
-    write_digits(&mut buffer[0..LOW], refusal as u64);
-    buffer[LOW] = LINE_END;
-}
-
-// Writes a refusal at the start of the lent buffer. The answer is 15 where the buffer is too short, and 0 else.
-#[tactic(auto, using(crate::proofs::WaysOut::not_written, crate::proofs::WaysOut::written_left, crate::proofs::WaysOut::written_answers))]
-pub fn write_refusal(refusal: u8, buffer: &mut [u8]) -> u8
-    ensures { WritingContract (refusal_line refusal) buffer.old result buffer.new }
-{
-    if buffer.len() >= FRAME_LENGTH {
-        write_refusal_line(buffer, refusal);
-        return 0;
-    }
-    15
-}
-
-// Writes the frame at the start of the lent buffer, or the refusal where there is one.
-// The answer is 15 where the buffer is too short, and 0 else.
-#[tactic(auto, using(crate::proofs::WaysOut::not_written))]
-pub fn write_frame(refusal: u8, fields: FrameFields, buffer: &mut [u8]) -> u8
-    ensures { WritingContract (printed refusal fields) buffer.old result buffer.new }
+// Writes the frame at the start of the lent buffer, or the refusal where there is one, or refuses a buffer that is too short.
+pub fn write_frame(refusal: u8, fields: FrameFields, buffer: &mut [u8]) -> Result<(), Refusal>
+    ensures { WritingContract (printed refusal fields) buffer.old (number_in result) buffer.new }
 {
     if refusal != 0 {
         return write_refusal(refusal, buffer);
     }
-    if buffer.len() < FRAME_LENGTH {
-        return 15;
-    }
-    write_fields(buffer, fields);
-    0
+    let Some(frame) = buffer.first_chunk_mut::<FRAME_LENGTH>() else {
+        return Err(Refusal::FrameLength);
+    };
+    write_line(&frame_fields(fields), frame);
+    Ok(())
 }

@@ -5,7 +5,7 @@ use Prim.Native.Nat.{ℕ, zero, suc, ◌+◌, ◌-◌, ◌*◌, ◌/◌, ◌≤�
 use native.Mathlib.Nat.{le_refl, le_trans, eq-or-lt_of_le, le_of_suc-le-suc}
 use native.Mathlib.Omega.{arith}
 use lib.Dec.{leb, lit≤}
-use Rattle.arithmetic.proofs.RefusalLaws.{first_exactly_when, use_of}
+use Rattle.refusal.proofs.RefusalLaws.{first_exactly_when, use_of}
 use Rattle.arithmetic.proofs.TestLaws.{le_cond, choice_le, lt_or_le, inside, not_outside}
 use Rattle.sheet.proofs.RangeLaws.{within, tests_fail}
 use Rattle.frontal_area.specs.FrontalArea.{first_dimension, last_dimension, frontal_area_of, multirotor_tests}

@@ -1,7 +1,7 @@
 -- The frontal area of a multirotor (document 02, item 2; table 7 of 002), and its refusal.
 use Rattle.std.specs.Prelude.{Bool, cond, List, [], ◌∷◌, ◌++◌, ℕ, ◌+◌, ◌-◌, ◌*◌, ◌/◌, ◌≤◌, leb}
 use Rattle.arithmetic.specs.Conditions.{outside}
-use Rattle.arithmetic.specs.Refusals.{Test, ◌when◌}
+use Rattle.refusal.specs.Refusals.{Test, ◌when◌}
 use Rattle.sheet.specs.Ranges.{InRange}
 use Rattle.sheet.specs.Sheet.{range_tests}
 

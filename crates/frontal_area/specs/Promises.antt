@@ -1,6 +1,6 @@
 -- What holds of every frontal area, and of its refusal.
 use Rattle.std.specs.Prelude.{◌≡◌, true, ◌↔◌, ℕ, ◌≤◌}
-use Rattle.arithmetic.specs.Refusals.{first_refusal}
+use Rattle.refusal.specs.Refusals.{first_refusal}
 use Rattle.sheet.specs.Ranges.{InRange}
 use Rattle.frontal_area.specs.FrontalArea.{frontal_area_of, no_frontal_area, multirotor_tests, MultirotorInRange}
 

@@ -2,29 +2,29 @@
 #![tactic(auto)]
 
 ghost use Rattle.std.specs.Prelude.{◌≡◌};
-ghost use Rattle.arithmetic.specs.Refusals.{first_refusal};
+ghost use Rattle.refusal.specs.Numbers.{number_in};
+ghost use Rattle.refusal.specs.Refusals.{first_refusal};
 ghost use Rattle.frontal_area.specs.FrontalArea.{frontal_area_of, multirotor_tests};
 
-use sheet::Sheet;
+use refusal::Refusal;
+use sheet::Aircraft;
 
 // The dimensions of the first and the last point, in mm: the smallest and the largest that have a frontal area.
 const FIRST_DIMENSION: u32 = 1_000;
 
 const LAST_DIMENSION: u32 = 40_000;
 
-// Refusals 1 to 3 of the aircraft, then 16, a dimension that has no frontal area; 0 for none. A dimension that has one is within its
-// range, so that the compiler tests it once.
-pub fn multirotor_refusal(dimension: u32, mass: u32, speed: u32) -> u8
-    ensures { result ≡ first_refusal (multirotor_tests dimension mass speed) }
+// Refusals 1 to 3 of the aircraft, then 16, a dimension that has no frontal area. A dimension that has one is within its range, so that
+// the compiler tests it once.
+#[inline(always)]
+pub fn check_multirotor(aircraft: Aircraft) -> Result<(), Refusal>
+    ensures { number_in result ≡ first_refusal (multirotor_tests aircraft.dimension aircraft.mass aircraft.speed) }
 {
-    if (dimension < FIRST_DIMENSION) | (LAST_DIMENSION < dimension) {
-        let refusal = Sheet::range_refusal(dimension, mass, speed);
-        if refusal != 0 {
-            return refusal;
-        }
-        return 16;
+    if (aircraft.dimension < FIRST_DIMENSION) | (LAST_DIMENSION < aircraft.dimension) {
+        aircraft.check_ranges()?;
+        return Err(Refusal::NoFrontalArea);
     }
-    Sheet::range_refusal(dimension, mass, speed)
+    aircraft.check_ranges()
 }
 
 // The frontal area in square millimetres, of a dimension in mm. The lines rise by 200, 400, 2,500 / 3 and 625 for each mm; the third

@@ -10,9 +10,9 @@ use lib.IntN.{ℤ, pos, negsuc}
 use lib.ListN.{length}
 use lib.Signed.{◌≤ℤ◌}
 use Rattle.arithmetic.specs.Fraction.{◌over◌, ◌⊑◌}
-use Rattle.arithmetic.specs.Refusals.{FirstToHold, OneOf}
+use Rattle.refusal.specs.Refusals.{FirstToHold, OneOf}
 use Rattle.arithmetic.proofs.FractionLaws.{trans_le}
-use Rattle.arithmetic.proofs.RefusalLaws.{one_of_le, one_of_more, answered_one_of, none_refused}
+use Rattle.refusal.proofs.RefusalLaws.{one_of_le, one_of_more, answered_one_of, none_refused}
 use Rattle.arithmetic.proofs.TestLaws.{cond_le}
 use Rattle.columns.specs.Column.{last_limit}
 use Rattle.columns.proofs.ColumnLaws.{column_max}

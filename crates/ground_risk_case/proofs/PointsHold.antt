@@ -14,7 +14,7 @@ use Rattle.arithmetic.specs.Conditions.{any_below}
 use Rattle.arithmetic.specs.Lists.{stored}
 use Rattle.arithmetic.proofs.EachLaws.{each_append, each_map}
 use Rattle.arithmetic.proofs.ListLaws.{length_tabulate, tabulate_at}
-use Rattle.arithmetic.proofs.RefusalLaws.{accepted_by}
+use Rattle.refusal.proofs.RefusalLaws.{accepted_by}
 use Rattle.arithmetic.proofs.TestLaws.{lt_or_le, cond_le}
 use Rattle.columns.specs.Column.{column_by, column_of, flag_of}
 use Rattle.columns.specs.SizeColumn.{size_column_of}

@@ -1,6 +1,6 @@
 -- The whole case: "tested in the order: 15, reading, sheet, footprint, class, mitigation; the first refusal from reading on is printed."
 use Rattle.std.specs.Prelude.{◌≡◌, List, ℕ}
-use Rattle.arithmetic.specs.Refusals.{answered}
+use Rattle.refusal.specs.Refusals.{answered}
 use Rattle.assessment.specs.declared.Assessment.{Assessment}
 use Rattle.assessment.specs.Question.{Question}
 use Rattle.assessment.specs.Assessment.{assessment_of}

@@ -1,6 +1,6 @@
 -- The demands at the bytes: what a frame tells that was printed with no refusal, and what every case answers.
 use Rattle.std.specs.Prelude.{◌≡◌, List, ◌∷◌, ◌++◌, ℕ, ◌≤◌, length}
-use Rattle.arithmetic.specs.Refusals.{numbers, OneOf}
+use Rattle.refusal.specs.Refusals.{numbers, OneOf}
 use Rattle.assessment.specs.Question.{Question}
 use Rattle.assessment.specs.Assessment.{assessment_of}
 use Rattle.assessment.specs.Promises.{assessment_refusals, AssessmentParts}

@@ -20,10 +20,6 @@ pub length_written : (fs : List (ℕ × ℕ)) → length (written fs) ≡ width 
 length_written [] = refl
 length_written (f ∷ fs) = simp (length-append, length_digits, length_written fs)
 
-pub written_append : (fs gs : List (ℕ × ℕ)) → written (fs ++ gs) ≡ written fs ++ written gs
-written_append [] gs = refl
-written_append (f ∷ fs) gs = rw (written_append fs gs, append_assoc)
-
 pub digits_written : (fs : List (ℕ × ℕ)) → AllDigits (written fs)
 digits_written [] = none
 digits_written (f ∷ fs) = digits_append (digits f.0 f.1) (written fs) (digits_digits f.0 f.1) (digits_written fs)

@@ -1,11 +1,11 @@
 -- Laws of lines: what is written in digits with a line end is a line, and what a line is made of.
-use Rattle.std.proofs.Common.{◌≡◌, ℕ, zero, suc, ◌+◌, ◌-◌, ◌/◌, ◌%◌, ◌^◌, ◌<◌, ◌≤◌, min, max, Bool, true, false, ◌&&◌, eqb, leb, List, [], ◌∷◌, ◌++◌, length, get_or, take, drop, sym, refl, ap, ◌∙◌, ap₂, arith, length-append, length-drop, length-take, get_or-drop, take_all, drop-cons, get_or-take, eqb-true, le-leb, leb-false, leb-true}
-use mathlib.Core.Bool.{beq}
+use Rattle.std.proofs.Common.{◌≡◌, ℕ, zero, suc, ◌+◌, ◌-◌, ◌/◌, ◌%◌, ◌^◌, ◌<◌, ◌≤◌, max, Bool, true, false, ◌&&◌, eqb, leb, List, [], ◌∷◌, ◌++◌, length, get_or, take, drop, sym, refl, ap, ◌∙◌, ap₂, arith, length-append, length-drop, length-take, get_or-drop, take_all, drop-cons, get_or-take, eqb-true, le-leb, leb-false, leb-true}
 use lib.ListN.{get_or-append}
 use lib.Seq.{get_or_at}
 use borrow.Author.Tests.{lt-leb}
+use Rattle.std.specs.List.{IsLastAndRest}
 use Rattle.arithmetic.specs.Lists.{every}
-use Rattle.arithmetic.proofs.TestLaws.{both, all_below_lem}
+use Rattle.arithmetic.proofs.TestLaws.{both}
 use Rattle.arithmetic.proofs.ListLaws.{every_at, every_all}
 use Rattle.arithmetic.proofs.PartLaws.{PartIs, within}
 use Rattle.hex_text.specs.Digits.{is_digit, digit_of, number, digits, field, is_line, line_end}
@@ -71,26 +71,6 @@ field_is s a k h p =
       long = length_digits k (field s a k);
     }
 
--- the test of a byte by its offset
-
-abbrev offset : ℕ → ℕ
-offset b = min (max ((b + 208) % 256) 4 - 4) ((b + 159) % 256)
-
--- at most 5 of a digit alone, computed over all bytes
-pub offset_digit : (b figure letter r : ℕ) → b < 256 → figure < 256 → letter < 256 → (figure + 48) % 256 ≡ b → (letter + 97) % 256 ≡ b
-    → r ≡ min (max figure 4 - 4) letter → leb r 5 ≡ is_digit b
-offset_digit b figure letter r h f l e d is =
-    let figure_is : figure ≡ (b + 208) % 256 = omega arith in
-    let letter_is : letter ≡ (b + 159) % 256 = omega arith in
-    let r_is : r ≡ offset b = is ∙ ap₂ (λ (x y : ℕ). min (max x 4 - 4) y) figure_is letter_is in
-    ap (λ (x : ℕ). leb x 5) r_is ∙ same (leb (offset b) 5) (is_digit b) (all_below_lem (λ b. beq (leb (offset b) 5) (is_digit b)) 256 refl b h)
-  where
-    same : (s t : Bool) → beq s t ≡ true → s ≡ t
-    same true true e = refl
-    same true false e = sym e
-    same false true e = e
-    same false false e = refl
-
 -- the larger of two is within a bound that both keep
 pub max_within : (a b k : ℕ) → leb (max a b) k ≡ leb a k && leb b k
 max_within a b k = by_tests (leb a k) (leb b k) refl refl
@@ -101,6 +81,29 @@ max_within a b k = by_tests (leb a k) (leb b k) refl refl
     by_tests false t p q = lt-leb (max a b) k (omega (arith, leb-false a k p))
 
 -- a line
+
+every_same : (t u : ℕ → Bool) (n : ℕ) → ((i : ℕ) → i < n → t i ≡ u i) → every t n ≡ every u n
+unfolding every
+every_same t u zero h = refl
+every_same t u (suc n) h = ap₂ ◌&&◌ (every_same t u n (λ i l. h i (omega arith))) (h n (omega arith))
+
+-- nothing is no line
+pub empty_no_line : (s : List ℕ) → length s ≡ 0 → is_line s ≡ false
+unfolding is_line every
+empty_no_line [] e = refl
+empty_no_line (b ∷ s) e = absurd (omega arith)
+
+-- by its digits and its last byte
+pub line_is : (s digits : List ℕ) (last : ℕ) → IsLastAndRest s last digits → is_line s ≡ every (λ i. is_digit (get_or digits i 0)) (length digits) && eqb last 10
+unfolding is_line
+line_is s digits last h =
+    let long : length s - 1 ≡ length digits = omega (arith, h.1) in
+    rw (
+      long,
+      h.0,
+      get_or_at digits last [] 0 (length digits) refl,
+      every_same (λ (i : ℕ). is_digit (get_or (digits ++ (last ∷ [])) i 0)) (λ (i : ℕ). is_digit (get_or digits i 0)) (length digits) (λ i l. rw (get_or-append digits (last ∷ []) 0 i l)),
+    )
 
 pub line_of : (x : List ℕ) → AllDigits x → is_line (x ++ line_end) ≡ true
 unfolding is_line

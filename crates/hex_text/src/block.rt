@@ -1,44 +1,45 @@
 // The test of a block of lines.
-ghost use Rattle.std.specs.Prelude.{◌≡◌, ◌+◌, ◌*◌, ◌≤◌, length, nat_le};
+ghost use Rattle.std.specs.Prelude.{◌≡◌, ◌+◌, ◌*◌, ◌^◌, ◌<◌, ◌≤◌, length, SomeIff};
 ghost use Rattle.hex_text.specs.Blocks.{each_is_line, are_lines};
 
 use crate::line::is_line;
 
-// Whether n parts of so many bytes each, from a place on, lie within so many bytes. By a quotient: the product may not fit.
-fn lie_within(bytes: usize, start: usize, each: usize, n: usize) -> bool
-    ensures { result ≡ nat_le (start + each * n) bytes }
-{
-    if bytes < start {
-        return false;
-    }
-    if each == 0 {
-        return true;
-    }
-    n <= (bytes - start) / each
+// Where lines stand in a text, one after the other: the place of the first, the bytes of each with its line end, and how many.
+#[derive(Clone, Copy)]
+pub struct Lines {
+    pub start: usize,
+    pub each: usize,
+    pub count: usize,
 }
 
-// Whether each of n parts of so many bytes from a place on is a line. No early exit.
-fn each_is_line(s: &[u8], start: usize, each: usize, n: usize) -> bool
-    requires { start + each * n ≤ length s.now }
-    ensures { result ≡ each_is_line s.now start each n }
-{
-    let mut good = true;
-    let mut k = 0;
-    while k < n {
-        let at = start + each * k;
-        good = good & is_line(&s[at..at + each]);
-        k += 1;
+impl Lines {
+    // Where the last one ends, unless that is no place at all.
+    fn end(self) -> Option<usize>
+        ensures { SomeIff result (self.start + self.each * self.count < 2 ^ 64) (self.start + self.each * self.count) }
+    {
+        self.start.checked_add(self.each.checked_mul(self.count)?)
     }
-    good
-}
 
-// Whether n lines of so many bytes each stand from a place on.
-pub fn are_lines(s: &[u8], start: usize, each: usize, n: usize) -> bool
-    ensures { result ≡ are_lines s.now start each n }
-{
-    if lie_within(s.len(), start, each, n) {
-        each_is_line(s, start, each, n)
-    } else {
-        false
+    // Whether each part is a line. No early exit, and no chunks_exact: a caller may ask for lines of no bytes.
+    fn each_is_line(self, s: &[u8]) -> bool
+        requires { self.start + self.each * self.count ≤ length s.now }
+        ensures { result ≡ each_is_line s.now self.start self.each self.count }
+    {
+        let mut good = true;
+        for k in 0..self.count {
+            let at = self.start + self.each * k;
+            good &= is_line(&s[at..at + self.each]);
+        }
+        good
+    }
+
+    // Whether they stand there in a text.
+    pub fn stand_in(self, s: &[u8]) -> bool
+        ensures { result ≡ are_lines s.now self.start self.each self.count }
+    {
+        let Some(end) = self.end() else {
+            return false;
+        };
+        end <= s.len() && self.each_is_line(s)
     }
 }

@@ -7,7 +7,7 @@ mod numbers;
 mod words;
 mod writer;
 
-pub use block::are_lines;
+pub use block::Lines;
 pub use line::is_line;
 pub use numbers::{number_of_four, number_of_two};
 pub use words::{number_of_words, word};

@@ -11,17 +11,20 @@ const UNITS: u32 = 0x01010101;
 const BYTES: u32 = 0x00ff00ff;
 
 // The byte at a place, 0 past the end.
-fn byte(s: &[u8], i: usize) -> u32
-    ensures { (result ≡ slice_index s.now i) × (result < 256) }
+fn byte(s: &[u8], i: usize) -> u8
+    ensures { result ≡ slice_index s.now i }
 {
-    if i < s.len() { s[i] as u32 } else { 0 }
+    s.get(i).copied().unwrap_or(0)
 }
 
 // The first four bytes of a part as one number, the first lowest: one load where they are there.
 pub fn word(s: &[u8]) -> u32
     ensures { result ≡ word_at s.now 0 }
 {
-    byte(s, 0) + byte(s, 1) * 256 + byte(s, 2) * 65536 + byte(s, 3) * 16777216
+    match s.first_chunk::<4>() {
+        Some(bytes) => u32::from_le_bytes(*bytes),
+        None => u32::from_le_bytes([byte(s, 0), byte(s, 1), byte(s, 2), 0]),
+    }
 }
 
 // What each byte's digit stands for, in its byte: the low four bits, and nine more for a letter. Seven less gives the same

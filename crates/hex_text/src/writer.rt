@@ -2,6 +2,7 @@
 ghost use Rattle.std.specs.Prelude.{◌≡◌, ◌<◌, length};
 ghost use Rattle.hex_text.specs.Digits.{digit_of, digits};
 
+// char::from_digit gives an Option of a char, which would be taken apart again: no plainer.
 fn digit_of(n: u64) -> u8
     requires { n < 16 }
     ensures { result ≡ digit_of n }
@@ -14,10 +15,9 @@ pub fn write_digits(part: &mut [u8], n: u64)
     ensures { part.new ≡ digits (length part.old) n }
 {
     let mut rest = n;
-    let mut i = part.len();
-    while 0 < i {
-        i -= 1;
+    // by index: of a slice after iter_mut().rev() no proof knows its elements
+    for i in (0..part.len()).rev() {
         part[i] = digit_of(rest % 16);
-        rest = rest / 16;
+        rest /= 16;
     }
 }

@@ -1,24 +1,24 @@
 -- What is promised of every high impact angle answer.
 use mathlib.Core.Path.{◌≡◌, refl}
 use Prim.Native.Nat.{ℕ, ◌*◌, ◌/◌, ◌≤◌}
-use native.Mathlib.Nat.{mul-le-mul, mul-le-mul_left, mul-le-mul_right, le_trans}
+use native.Mathlib.Nat.{mul-le-mul, mul-le-mul_right, le_trans}
 use native.Mathlib.Omega.{arith}
 use lib.Dec.{leb, lit<, lit≤}
 use borrow.Author.Tests.{le-leb}
 use Rattle.arithmetic.specs.Rounding.{div_up}
-use Rattle.arithmetic.proofs.RefusalLaws.{first_exactly_when}
-use Rattle.arithmetic.proofs.RefusalsHold.{answer_promise}
-use Rattle.arithmetic.proofs.RoundingLaws.{down_mono, up_mono, up_le, rounded_apart}
+use Rattle.refusal.proofs.RefusalLaws.{first_exactly_when}
+use Rattle.refusal.proofs.RefusalsHold.{answer_promise}
+use Rattle.arithmetic.proofs.RoundingLaws.{down_mono, up_mono, rounded_apart}
 use Rattle.columns.specs.Column.{last_limit, column_of}
 use Rattle.columns.proofs.ColumnLaws.{column_in_table, column_max, flag_at_most_one}
 use Rattle.sheet.specs.Lines.{full_width}
 use Rattle.frontal_area.specs.FrontalArea.{last_dimension, frontal_area_of, multirotor_tests}
 use Rattle.frontal_area.proofs.PromisesHold.{frontal_area_promise, multirotor_refusal}
 use Rattle.high_angle.specs.SafetyFactor.{root_to, root_scale, factor_above}
-use Rattle.high_angle.specs.HighAngle.{energy_num, energy_den, joules_of, factor_of, area_num, area_den, area_of, accepted_with, accepted_high_angle, refused_high_angle, high_angle_of}
+use Rattle.high_angle.specs.HighAngle.{energy_num, energy_den, joules_of, factor_of, area_den, area_of, accepted_with, accepted_high_angle, refused_high_angle, high_angle_of}
 use Rattle.high_angle.specs.Promises.{HighAnglePromise, AcceptedExactlyWhen, AcceptedRanges, RootsOfAllNumbers, AreaGrows, HighAngleLaws}
 use Rattle.high_angle.specs.PrivateBounds.{OneApart}
-use Rattle.high_angle.proofs.AnswerMade.{energy_den_pos, joules_fit}
+use Rattle.high_angle.proofs.AnswerMade.{energy_den_pos, joules_fit, largest_area}
 use Rattle.high_angle.proofs.RootLaws.{largest_low, largest_high, smallest_high, smallest_low, power_at_most}
 use Rattle.high_angle.proofs.FactorLaws.{scaled_most, low_least, high_most, factors_apart, factors_ordered, low_mono, high_mono}
 
@@ -45,9 +45,6 @@ module _ (w m : ℕ) where
   ordered : (f g x : ℕ) → f ≤ g → f * x / area_den ≤ div_up (g * x) area_den
   ordered f g x h =
       le_trans (down_mono (f * x) (g * x) area_den (lit< tt) (mul-le-mul_right x h)) (rounded_apart (g * x) area_den (lit< tt)).0
-
-  largest_area : (a g : ℕ) → a ≤ full_width last_dimension → g ≤ factor_above → div_up (area_num a g) area_den ≤ 90577382
-  largest_area a g h k = up_le 90577382 _ area_den (lit< tt) (le_trans (mul-le-mul k (mul-le-mul_left 157 (mul-le-mul h h))) (lit≤ tt))
 
   column_least : (high : ℕ) → high ≤ last_limit → 1 ≤ column_of high
   unfolding column_of

@@ -3,13 +3,12 @@ use mathlib.Core.Path.{◌≡◌, refl}
 use mathlib.Core.Bool.{Bool, true, false, cond}
 use mathlib.Core.Logic.{⊎_elim}
 use Prim.Native.Nat.{ℕ, zero, suc, ◌*◌, ◌^◌, ◌≤◌, ◌<◌}
-use native.Mathlib.Nat.{pow-le-pow_left, pow-lt-pow_left, pow-suc, pow-zero, one-mul, le_of_suc-le-suc, le_trans, mul-le-mul}
+use native.Mathlib.Nat.{pow-le-pow_left, pow-lt-pow_left, pow-suc, pow-zero, one-mul, le_of_suc-le-suc, le_trans}
 use native.Mathlib.Omega.{arith}
 use lib.Dec.{leb, ltb}
 use borrow.Author.Tests.{leb-true, leb-false, ltb-true, ltb-false}
 use Rattle.arithmetic.proofs.TestLaws.{lt_or_le}
 use Rattle.high_angle.specs.SafetyFactor.{largest, smallest}
-use Rattle.high_angle.specs.PrivateBounds.{base_max}
 
 pub product : (f : ℕ) → f ^ 5 ≡ f * f * f * f * f
 product f = simp (pow-suc f 4, pow-suc f 3, pow-suc f 2, pow-suc f 1, pow-suc f 0, pow-zero, one-mul)
@@ -95,13 +94,3 @@ module _ (n x y : ℕ) (h : x ≤ y) where
 
   pub smallest_mono : y ≤ n ^ 5 → smallest n x ≤ smallest n y
   smallest_mono t = smallest_low x n (smallest n y) (le_trans h (smallest_high y n t))
-
--- a fifth power fits 64 bits
-pub power_fits : (f : ℕ) → f ≤ base_max → (f * f ≤ 7131 * 7131) × (f * f * (f * f) ≤ 7131 * 7131 * (7131 * 7131)) × (f * f * (f * f) * f ≤ 7131 * 7131 * (7131 * 7131) * 7131)
-power_fits f h =
-    let square : f * f ≤ 7131 * 7131 = mul-le-mul h h in
-    let fourth : f * f * (f * f) ≤ 7131 * 7131 * (7131 * 7131) = mul-le-mul square square in
-    (square, fourth, mul-le-mul fourth h)
-
-pub power_is : (f : ℕ) → f * f * (f * f) * f ≡ f ^ 5
-power_is f = rw (product f) (omega arith)

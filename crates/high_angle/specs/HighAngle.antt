@@ -1,6 +1,8 @@
 -- The high impact angle area of a multirotor and its refusals (document 02, item 2; chapter 5 of 002).
-use Rattle.std.specs.Prelude.{ℕ, ◌*◌}
-use Rattle.arithmetic.specs.Refusals.{answered}
+use Rattle.std.specs.Prelude.{ℕ, ◌*◌, Result}
+use Rattle.refusal.specs.Numbers.{answer_as}
+use Rattle.refusal.specs.Refusals.{answered}
+use Rattle.refusal.specs.declared.Refusal.{Refusal}
 use Rattle.columns.specs.Bracket.{bracket, rounded_outward}
 use Rattle.columns.specs.Column.{column_and_flag_of}
 use Rattle.columns.specs.declared.Bracket.{Bracket}
@@ -8,6 +10,7 @@ use Rattle.sheet.specs.Lines.{full_width}
 use Rattle.frontal_area.specs.FrontalArea.{frontal_area_of, multirotor_tests}
 use Rattle.high_angle.specs.SafetyFactor.{low_factor, high_factor}
 use Rattle.high_angle.specs.declared.HighAngle.{HighAngle}
+use Rattle.high_angle.specs.declared.HighAngleArea.{HighAngleArea}
 
 -- "The energy at terminal speed is mass² × 9.81 / (1.225 × 0.8 × frontal area), in kg and square metres; keep it in whole joules, down and up." Of grams and
 -- square millimetres it is mass² × 981 / (98 × frontal area).
@@ -72,3 +75,19 @@ refused_high_angle n =
 -- refusals 1 to 3 and then 16; "show that refusal 4 never occurs here" (exact_high_angle)
 unfoldable pub high_angle_of : ℕ → ℕ → ℕ → HighAngle
 high_angle_of w m v = answered (multirotor_tests w m v) (accepted_high_angle w m) refused_high_angle
+
+-- what an answer of the code stands for: "a definition tells you this paper's number and values for each of its cases"
+abbrev pub accepted_answer : HighAngleArea → HighAngle
+accepted_answer s =
+    record {
+      refusal = 0;
+      column = s.column;
+      flag = s.flag;
+      frontal_area = s.frontal_area;
+      joules = s.joules;
+      factor = s.factor;
+      area = s.area;
+    }
+
+abbrev pub high_angle_answer : Result HighAngleArea Refusal → HighAngle
+high_angle_answer = answer_as accepted_answer refused_high_angle

@@ -1,11 +1,9 @@
 -- Within which numbers the private functions work, so that every product fits 64 bits. Only private functions are stated by it.
-use Rattle.std.specs.Prelude.{◌≡◌, ℕ, ◌+◌, ◌*◌, ◌^◌, ◌≤◌, ◌<◌}
+use Rattle.std.specs.Prelude.{ℕ, ◌+◌, ◌*◌, ◌≤◌}
 use Rattle.columns.specs.declared.Bracket.{Bracket}
 use Rattle.sheet.specs.Lines.{full_width}
 use Rattle.frontal_area.specs.FrontalArea.{last_dimension}
 use Rattle.high_angle.specs.SafetyFactor.{root_scale, root_to}
-use Rattle.high_angle.specs.declared.root.Arc.{Arc}
-use Rattle.high_angle.specs.declared.root.Root.{Root}
 
 -- the largest number whose fifth power fits 64 bits
 abbrev pub base_max : ℕ
@@ -22,14 +20,3 @@ width_max = full_width last_dimension
 pub record OneApart (joules : Bracket) : Type 0 where
   pub ordered : joules.low ≤ joules.high
   pub apart : joules.high ≤ joules.low + 1
-
--- what `on_arc` needs: nothing overflows, and the arc's start and rise aren't above the largest base, in 2⁴⁹ths
-pub record ArcFits (arc : Arc) : Type 0 where
-  pub end_most : arc.0 + 2 ^ 29 * arc.1 < (base_max + 1) * 2 ^ 49
-  pub rise_most : arc.1 ≤ 2 ^ 29
-  pub bend_most : arc.2 ≤ arc.1
-
--- a number with its fifth power and the next one's
-pub record Powers (root : Root) : Type 0 where
-  pub below : root.below ≡ root.low ^ 5
-  pub above : root.above ≡ (root.low + 1) ^ 5

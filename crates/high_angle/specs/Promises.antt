@@ -1,6 +1,6 @@
 -- What is promised of every high impact angle answer.
 use Rattle.std.specs.Prelude.{◌≡◌, ◌↔◌, ℕ, ◌+◌, ◌*◌, ◌^◌, ◌≤◌}
-use Rattle.arithmetic.specs.Refusals.{AnswerPromise}
+use Rattle.refusal.specs.Refusals.{AnswerPromise}
 use Rattle.columns.specs.Column.{column_count}
 use Rattle.frontal_area.specs.FrontalArea.{multirotor_tests, MultirotorInRange}
 use Rattle.high_angle.specs.declared.HighAngle.{HighAngle}

@@ -9,9 +9,8 @@ use borrow.Author.Tests.{eq-eqb, ne_eqb}
 use lib.Count.{ones, ones_step}
 use lib.Dec.{eqb}
 use lib.ListN.{get_or}
-use Rattle.arithmetic.specs.PrivateBitwiseOr.{or_below}
 use Rattle.arithmetic.specs.SumsAndMaxima.{sum_below}
-use Rattle.arithmetic.proofs.OrLaws.{le_or, or_below_lem}
+use Rattle.arithmetic.proofs.OrLaws.{or_below, le_or, or_below_lem}
 use Rattle.arithmetic.proofs.SumLaws.{sum_same, sum_le, sum_rows, ones_sum}
 use Rattle.arithmetic.proofs.TestLaws.{lt_or_le}
 use Rattle.map.specs.Size.{map_rows, map_columns, map_cells}
@@ -43,7 +42,7 @@ cells_are_ones marks small =
 
 -- ---- no mark
 
-no_ones : (k n : ℕ) → n < 2 ^ k → ones n ≡ 0 → n ≡ 0
+pub no_ones : (k n : ℕ) → n < 2 ^ k → ones n ≡ 0 → n ≡ 0
 no_ones zero n h e = omega arith
 no_ones (suc k) n h e = omega (arith, ones_step n, no_ones k (n / 2) (omega arith) (omega (arith, ones_step n)))
 

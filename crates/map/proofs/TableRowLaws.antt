@@ -1,15 +1,16 @@
 -- Laws of the table row: it keeps the order of the counts, and is 2 to 7.
-use mathlib.Core.Path.{◌≡◌}
+use mathlib.Core.Path.{◌≡◌, ◌∙◌}
 use mathlib.Core.Logic.{⊎_elim}
 use mathlib.Core.Bool.{false, cond}
 use Prim.Native.Nat.{ℕ, ◌*◌, ◌≤◌, ◌<◌}
 use native.Mathlib.Nat.{le_refl, le_trans}
 use native.Mathlib.Omega.{arith}
-use borrow.Author.Tests.{lt-ltb, le-ltb}
+use borrow.Author.Tests.{lt-ltb, le-ltb, ne_eqb}
 use lib.Dec.{lit≤}
+use Rattle.std.proofs.Common.{Option, Some}
 use Rattle.arithmetic.proofs.TestLaws.{lt_or_le, cond_le, le_cond}
 use Rattle.map.specs.Map.{largest_count, wrong_area}
-use Rattle.map.specs.TableRow.{square_kilometre, below_density, table_row, table_row_or_zero}
+use Rattle.map.specs.TableRow.{square_kilometre, below_density, table_row, table_row_or_zero, row_unless_zero}
 
 module _ (area : ℕ) where
   -- at one density: where y is below it, so is x
@@ -56,3 +57,8 @@ module _ (area : ℕ) where
 pub row_in_range : (people area : ℕ) → people ≤ largest_count → wrong_area area ≡ false → table_row_or_zero people area ≡ table_row people area
 unfolding table_row_or_zero
 row_in_range people area h e = simp (le-ltb largest_count people h, e)
+
+pub some_row : (people area : ℕ) {row : Option ℕ} → people ≤ largest_count → wrong_area area ≡ false → row ≡ row_unless_zero (table_row_or_zero people area)
+    → row ≡ Some (table_row people area)
+some_row people area h e r =
+    let some = ne_eqb (table_row people area) 0 (λ z. omega (arith, row_ge area people)) in r ∙ simp (row_in_range people area h e, some)

@@ -7,8 +7,8 @@ use native.Mathlib.Omega.{arith}
 use borrow.Author.Tests.{eqb-true, eqb-false, ltb-false, not-false}
 use lib.Dec.{ltb}
 use lib.ListN.{length}
-use Rattle.arithmetic.specs.Refusals.{FirstToHold, first_refusal}
-use Rattle.arithmetic.proofs.RefusalLaws.{first_exactly_when}
+use Rattle.refusal.specs.Refusals.{FirstToHold, first_refusal}
+use Rattle.refusal.proofs.RefusalLaws.{first_exactly_when}
 use Rattle.arithmetic.proofs.TestLaws.{neither, inside, any_none}
 use Rattle.map.specs.Size.{map_cells, map_rows}
 use Rattle.map.specs.Map.{largest_count, least_area, largest_area, wrong_area, Map, count_at, cells_in}

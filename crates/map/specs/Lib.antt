@@ -4,3 +4,4 @@ pub mod TableRow
 pub mod Refusals
 pub mod Points
 pub mod PrivateCounts
+pub mod GroundMap

@@ -1,7 +1,7 @@
 -- Document 01, "Footprint refusals": of a map and the marks on it, and of the counts alone.
 use Rattle.std.specs.Prelude.{Bool, not, ◌||◌, List, [], ◌∷◌, ℕ, ltb, eqb, length}
 use Rattle.arithmetic.specs.Conditions.{any_below}
-use Rattle.arithmetic.specs.Refusals.{Test, ◌when◌}
+use Rattle.refusal.specs.Refusals.{Test, ◌when◌}
 use Rattle.map.specs.Size.{map_rows, map_cells}
 use Rattle.map.specs.Map.{largest_count, wrong_area, Map, count_at, cells_in}
 

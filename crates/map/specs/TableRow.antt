@@ -1,5 +1,5 @@
 -- Document 01, "A cell's table row".
-use Rattle.std.specs.Prelude.{Bool, cond, ◌||◌, ℕ, ◌*◌, ltb}
+use Rattle.std.specs.Prelude.{Bool, cond, ◌||◌, ℕ, ◌*◌, ltb, eqb, Option, Some, None}
 use Rattle.map.specs.Map.{largest_count, Map, count_at, area_at, wrong_area}
 
 -- in square metres
@@ -22,6 +22,10 @@ table_row people area =
 -- the table row where both numbers are in their ranges, otherwise 0
 unfoldable pub table_row_or_zero : ℕ → ℕ → ℕ
 table_row_or_zero people area = cond (ltb largest_count people || wrong_area area) 0 (table_row people area)
+
+-- a table row, none where 0 stands for it
+abbrev pub row_unless_zero : ℕ → Option ℕ
+row_unless_zero row = cond (eqb row 0) None (Some row)
 
 -- the table row of the cell at a place
 abbrev pub row_at : Map → ℕ → ℕ

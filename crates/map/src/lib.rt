@@ -6,13 +6,16 @@ mod density;
 mod marks;
 
 ghost use Rattle.std.specs.Prelude.{◌≡◌};
-ghost use Rattle.arithmetic.specs.Refusals.{first_refusal};
+ghost use Rattle.refusal.specs.Numbers.{number_in};
+ghost use Rattle.refusal.specs.Refusals.{first_refusal};
+ghost use Rattle.map.specs.GroundMap.{map_of};
 ghost use Rattle.map.specs.Refusals.{map_tests};
 
-pub use crate::counts::counts_refusal;
+pub use crate::counts::check_counts;
 use crate::counts::wrong_count;
 pub use crate::density::table_row;
 use crate::marks::no_mark;
+use refusal::Refusal;
 
 // The size of a map.
 pub const MAP_ROWS: usize = 64;
@@ -29,21 +32,33 @@ pub const LEAST_AREA: u32 = 100;
 
 pub const LARGEST_AREA: u32 = 25000000;
 
-// The first of refusals 5 to 8, of a map and the marks on it, or 0.
-pub fn map_refusal(counts: &[u32], marks: &[u64], area: u32) -> u8
-    ensures { result ≡ first_refusal (map_tests (record { counts = counts.now; cell_area = area }) marks.now) }
-{
-    if (counts.len() != MAP_CELLS) | (marks.len() != MAP_ROWS) {
-        return 5;
+// A map as it is lent: its head counts, row after row, and the area of each cell.
+#[derive(Clone, Copy)]
+pub struct GroundMap<'a> {
+    pub counts: &'a [u32],
+    pub cell_area: u32,
+}
+
+impl GroundMap<'_> {
+    // Refusals 5 to 8, of the map and the marks on it.
+    pub fn check(self, marks: &[u64]) -> Result<(), Refusal>
+        ensures { number_in result ≡ first_refusal (map_tests (map_of self.entry) marks.now) }
+    {
+        let Ok(counts) = <&[u32; MAP_CELLS]>::try_from(self.counts) else {
+            return Err(Refusal::BufferLength);
+        };
+        let Ok(marks) = <&[u64; MAP_ROWS]>::try_from(marks) else {
+            return Err(Refusal::BufferLength);
+        };
+        if (self.cell_area < LEAST_AREA) | (LARGEST_AREA < self.cell_area) {
+            return Err(Refusal::CellArea);
+        }
+        if wrong_count(counts) {
+            return Err(Refusal::HeadCount);
+        }
+        if no_mark(marks) {
+            return Err(Refusal::NoMark);
+        }
+        Ok(())
     }
-    if (area < LEAST_AREA) | (LARGEST_AREA < area) {
-        return 6;
-    }
-    if wrong_count(counts) {
-        return 7;
-    }
-    if no_mark(marks) {
-        return 8;
-    }
-    0
 }

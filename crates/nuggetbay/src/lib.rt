@@ -1,4 +1,5 @@
-// The boundary: every operation that a console written in C or Rust may call. Each one answers what the operation that it passes on to answers.
+// The boundary: every operation that a console written in C or Rust may call. Each one answers as C has it what the operation
+// that it passes on to answers.
 #![tactic(auto)]
 
 ghost use Rattle.std.specs.Prelude.{◌≡◌};
@@ -13,25 +14,29 @@ ghost use Rattle.case_text.specs.Text.{ReadingContract};
 ghost use Rattle.frame.specs.Frame.{printed, WritingContract};
 ghost use Rattle.ground_risk_case.specs.Case.{CaseContract};
 
-use assessment::{Assessment, assess};
+use assessment::{Assessment, Operation};
 use case_text::{Reading, read_case};
-use columns::size_column;
 use descent::{Descent, descent_of};
 use footprint::{Footprint, footprint_on_map};
 use frame::{FrameFields, write_frame};
 use ground_risk_case::print_case;
 use high_angle::{HighAngle, high_angle_of};
+use map::GroundMap;
+use refusal::refusal_number;
 use risk_class::{FinalClass, IntrinsicClass, final_class, intrinsic_class};
-use sheet::{SheetAnswer, sheet_with_size_column};
+use sheet::{Aircraft, SheetAnswer};
 
-// The aircraft's sheet, by the two calls that sheet_of makes. sheet_of is too large for the compiler to put it in place at two callers,
-// and a call of it copies the answer; its two parts are small enough.
+// The aircraft's sheet.
 #[unsafe(no_mangle)]
 pub extern "C" fn nb_sheet(dimension: u32, mass: u32, speed: u32) -> SheetAnswer
     ensures { result ≡ sheet_of dimension mass speed }
 {
-    let size = size_column(dimension, speed);
-    sheet_with_size_column(dimension, mass, speed, size)
+    let aircraft = Aircraft {
+        dimension,
+        mass,
+        speed,
+    };
+    SheetAnswer::from(aircraft.sheet())
 }
 
 // The high impact angle area of a multirotor.
@@ -39,7 +44,12 @@ pub extern "C" fn nb_sheet(dimension: u32, mass: u32, speed: u32) -> SheetAnswer
 pub extern "C" fn nb_high_angle(dimension: u32, mass: u32, speed: u32) -> HighAngle
     ensures { result ≡ high_angle_of dimension mass speed }
 {
-    high_angle_of(dimension, mass, speed)
+    let aircraft = Aircraft {
+        dimension,
+        mass,
+        speed,
+    };
+    HighAngle::from(high_angle_of(aircraft))
 }
 
 // The descent of a multirotor from its operating height.
@@ -53,7 +63,12 @@ pub extern "C" fn nb_descent(
 ) -> Descent
     ensures { result ≡ descent_of dimension mass speed height budget }
 {
-    descent_of(dimension, mass, speed, height, budget)
+    let aircraft = Aircraft {
+        dimension,
+        mass,
+        speed,
+    };
+    Descent::from(descent_of(aircraft, height, budget))
 }
 
 // The footprint on a lent map.
@@ -61,7 +76,7 @@ pub extern "C" fn nb_descent(
 pub extern "C" fn nb_footprint(counts: &[u32], marks: &[u64], cell_area: u32) -> Footprint
     ensures { result ≡ footprint_of (record { counts = counts.now; cell_area = cell_area }) marks.now }
 {
-    footprint_on_map(counts, marks, cell_area)
+    Footprint::from(footprint_on_map(GroundMap { counts, cell_area }, marks))
 }
 
 // The intrinsic class.
@@ -69,7 +84,7 @@ pub extern "C" fn nb_footprint(counts: &[u32], marks: &[u64], cell_area: u32) ->
 pub extern "C" fn nb_intrinsic_class(column: u8, row: u8, controlled: u8) -> IntrinsicClass
     ensures { result ≡ intrinsic_class_of column row controlled }
 {
-    intrinsic_class(column, row, controlled)
+    IntrinsicClass::from(intrinsic_class(column, row, controlled))
 }
 
 // The final class.
@@ -77,7 +92,7 @@ pub extern "C" fn nb_intrinsic_class(column: u8, row: u8, controlled: u8) -> Int
 pub extern "C" fn nb_final_class(column: u8, class: u8, word: u16) -> FinalClass
     ensures { result ≡ final_class_of column class word }
 {
-    final_class(column, class, word)
+    FinalClass::from(final_class(column, class, word))
 }
 
 // Sheet, footprint and both classes over a lent map.
@@ -102,9 +117,18 @@ pub extern "C" fn nb_assess(
       word = word;
     }) }
 {
-    assess(
-        dimension, mass, speed, counts, marks, cell_area, controlled, word,
-    )
+    let operation = Operation {
+        aircraft: Aircraft {
+            dimension,
+            mass,
+            speed,
+        },
+        map: GroundMap { counts, cell_area },
+        marks,
+        controlled,
+        word,
+    };
+    Assessment::from(operation.assess())
 }
 
 // Reads a case text into the lent buffers.
@@ -113,7 +137,7 @@ pub extern "C" fn nb_read_case(text: &[u8], counts: &mut [u32], marks: &mut [u64
     ensures { ReadingContract text.now (record { counts = counts.old; marks = marks.old }) result
         (record { counts = counts.new; marks = marks.new }) }
 {
-    read_case(text, counts, marks)
+    Reading::from(read_case(text, counts, marks))
 }
 
 // Writes the frame, or the refusal, at the start of the lent buffer.
@@ -121,7 +145,7 @@ pub extern "C" fn nb_read_case(text: &[u8], counts: &mut [u32], marks: &mut [u64
 pub extern "C" fn nb_write_frame(refusal: u8, fields: FrameFields, frame: &mut [u8]) -> u8
     ensures { WritingContract (printed refusal fields) frame.old result frame.new }
 {
-    write_frame(refusal, fields, frame)
+    refusal_number(write_frame(refusal, fields, frame))
 }
 
 // The whole case, from its text to the printed frame.
@@ -137,5 +161,5 @@ pub extern "C" fn nb_case(
         result
         (record { map = record { counts = counts.new; marks = marks.new }; frame = frame.new }) }
 {
-    print_case(text, counts, marks, frame)
+    refusal_number(print_case(text, counts, marks, frame))
 }

@@ -1,62 +1,52 @@
-// The random source. Its state is a number of 32 bits, s.
-ghost use Rattle.std.specs.Prelude.{◌<◌};
+// The random source. Its state is a number of 32 bits.
+ghost use Rattle.std.specs.Prelude.{◌<◌, length};
 
-use arithmetic::difference_or_zero;
-
-// A draw, and the state of the source after it.
 #[derive(Clone, Copy)]
-pub(crate) struct Draw {
-    pub(crate) value: u64,
-    pub(crate) next: u32,
-}
+pub(crate) struct Source(u32);
 
-// The state that a case number starts from.
-pub(crate) fn source_of(n: u32) -> u32 {
-    (n as u64 * 2654435761 % 4294967296) as u32
-}
-
-// A number below n.
-pub(crate) fn below(s: u32, n: u64) -> Draw
-    requires { 0 < n }
-    ensures { (result.value < n) × (result.value < 65536) }
-{
-    let x = (s as u64 * 1664525 + 1013904223) % 4294967296;
-    Draw {
-        value: x / 65536 % n,
-        next: x as u32,
+impl Source {
+    // The source that a case number starts from.
+    pub(crate) fn of_case(n: u32) -> Source {
+        Source(n.wrapping_mul(2_654_435_761))
     }
-}
 
-// 32 bits, the higher half first.
-pub(crate) fn bits_32(s: u32) -> Draw
-    ensures { result.value < 4294967296 }
-{
-    let high = below(s, 65536);
-    let low = below(high.next, 65536);
-    Draw {
-        value: high.value * 65536 + low.value,
-        next: low.next,
+    // A number below n.
+    pub(crate) fn below(&mut self, n: u64) -> u64
+        requires { 0 < n }
+        ensures { (result < n) × (result < 65536) }
+    {
+        self.0 = self.0.wrapping_mul(1_664_525).wrapping_add(1_013_904_223);
+        u64::from(self.0 / 65536) % n
     }
-}
 
-// 64 bits, the higher half first.
-pub(crate) fn bits_64(s: u32) -> Draw {
-    let high = bits_32(s);
-    let low = bits_32(high.next);
-    Draw {
-        value: high.value * 4294967296 + low.value,
-        next: low.next,
+    // 32 bits, the higher half first.
+    pub(crate) fn bits_32(&mut self) -> u64
+        ensures { result < 4294967296 }
+    {
+        let high = self.below(65536);
+        high * 65536 + self.below(65536)
     }
-}
 
-// A number from a to b.
-pub(crate) fn from_to(s: u32, a: u32, b: u32) -> Draw
-    ensures { result.value < 8589934592 }
-{
-    let bits = bits_32(s);
-    let many = difference_or_zero(b as u64, a as u64) + 1;
-    Draw {
-        value: a as u64 + bits.value % many,
-        next: bits.next,
+    // 64 bits, the higher half first.
+    pub(crate) fn bits_64(&mut self) -> u64 {
+        let high = self.bits_32();
+        high * 4_294_967_296 + self.bits_32()
+    }
+
+    // A number of a band. As the sum of two numbers of 32 bits it is below 2³³: a clause here and where it is used, since a type for it
+    // would be taken apart at once.
+    pub(crate) fn of_band(&mut self, band: (u32, u32)) -> u64
+        ensures { result < 8589934592 }
+    {
+        let (first, last) = band;
+        u64::from(first) + self.bits_32() % (u64::from(last.saturating_sub(first)) + 1)
+    }
+
+    // A number of one of the bands, each as likely as another.
+    pub(crate) fn of_bands(&mut self, bands: &[(u32, u32)]) -> u64
+        requires { 0 < length bands.now }
+    {
+        let band = self.below(bands.len() as u64) as usize;
+        self.of_band(bands[band])
     }
 }

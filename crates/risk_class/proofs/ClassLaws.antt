@@ -6,10 +6,11 @@ use native.Mathlib.Omega.{arith}
 use borrow.Author.Tests.{ltb-false}
 use lib.Dec.{ltb, eqb}
 use Rattle.arithmetic.specs.Conditions.{outside}
-use Rattle.arithmetic.proofs.RefusalLaws as tests
-use Rattle.arithmetic.proofs.RefusalLaws.{FollowsFrom}
-use Rattle.arithmetic.proofs.TestLaws.{neither, inside, cond_le, le_cond}
+use Rattle.refusal.proofs.RefusalLaws as tests
+use Rattle.refusal.proofs.RefusalLaws.{FollowsFrom}
+use Rattle.arithmetic.proofs.TestLaws.{neither, inside, not_outside, cond_le, le_cond}
 use Rattle.risk_class.specs.ClassTable.{class_at, used_row, wrong_column, outside_table, class_tests, refused_class, accepted_class, intrinsic_class_of}
+use Rattle.risk_class.specs.declared.class_table.Column.{Column}
 
 pub record InTable (column row controlled : ℕ) : Type 0 where
   pub column_ge : 1 ≤ column
@@ -26,6 +27,10 @@ in_table column row controlled e =
     let c = inside 1 5 column o.0 in
     let r = inside 2 7 row o.1 in
     record { column_ge = c.0; column_le = c.1; row_ge = r.0; row_le = r.1; controlled_le = ltb-false 1 controlled m.1 }
+
+-- a column of the table is in its range
+pub column_in : {column : ℕ} (c : Column) → c.number ≡ column → wrong_column column ≡ false
+column_in {column} c e = not_outside 1 5 column (omega (arith, e, c.in_table)) (omega (arith, e, c.in_table))
 
 pub used_in : (row controlled : ℕ) → 2 ≤ row → row ≤ 7 → (1 ≤ used_row row controlled) × (used_row row controlled ≤ 7)
 used_in row controlled h l =

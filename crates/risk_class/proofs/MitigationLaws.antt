@@ -5,8 +5,8 @@ use Prim.Native.Nat.{ℕ, ◌≤◌}
 use native.Mathlib.Omega.{arith}
 use borrow.Author.Tests.{eqb-false}
 use lib.Dec.{eqb}
-use Rattle.arithmetic.proofs.RefusalLaws as tests
-use Rattle.arithmetic.proofs.RefusalLaws.{FollowsFrom}
+use Rattle.refusal.proofs.RefusalLaws as tests
+use Rattle.refusal.proofs.RefusalLaws.{FollowsFrom}
 use Rattle.arithmetic.proofs.TestLaws.{neither}
 use Rattle.risk_class.specs.ClassTable.{wrong_column}
 use Rattle.risk_class.specs.Mitigation.{not_offered, credit_of, any_not_offered, is_entry, no_entry, final_class, mitigation_tests, refused_final, accepted_final, final_class_of}
@@ -25,11 +25,6 @@ pub way_out : (column class word n : ℕ) → FollowsFrom (mitigation_tests colu
     (cond (eqb n 0) (accepted_final (final_class column class word)) (refused_final n) ≡ final_class_of column class word)
 unfolding final_class_of
 way_out column class word = tests.way_out _ _ (mitigation_tests column class word) refl
-
--- the test of the four credits, as the code makes it
-pub not_offered_is : (word : ℕ) {a b c d : ℕ} → a ≡ credit_of word 0 → b ≡ credit_of word 1 → c ≡ credit_of word 2 → d ≡ credit_of word 3
-    → {t : Bool} → (eqb a not_offered || eqb b not_offered || eqb c not_offered || eqb d not_offered) ≡ t → any_not_offered word ≡ t
-not_offered_is word ea eb ec ed h = simp (ea, eb, ec, ed) at h
 
 -- in a word of which every digit is offered each credit is at most 2
 pub record Credits (word : ℕ) : Type 0 where

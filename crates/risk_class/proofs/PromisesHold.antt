@@ -9,8 +9,8 @@ use borrow.Author.Tests.{lt-ltb, le-ltb, le-leb, eq-eqb, eqb-false, ltb-false, n
 use lib.Dec.{T, ltb, eqb}
 use lib.IntN.{ℤ, pos, negsuc, sub_ℕ}
 use lib.Signed.{lt_z, le_z, ◌≤ℤ◌}
-use Rattle.arithmetic.specs.Refusals.{FirstToHold, AnswerPromise}
-use Rattle.arithmetic.proofs.RefusalsHold.{answer_promise}
+use Rattle.refusal.specs.Refusals.{FirstToHold, AnswerPromise}
+use Rattle.refusal.proofs.RefusalsHold.{answer_promise}
 use Rattle.arithmetic.proofs.TestLaws.{lt_or_le, neither, inside, any_is}
 use Rattle.risk_class.specs.ClassTable.{no_class, class_at, used_row, wrong_column, outside_table, entry_is_none, class_tests, refused_class, accepted_class, intrinsic_class_of}
 use Rattle.risk_class.specs.Mitigation.{credit_of, any_not_offered, is_entry, no_entry, after_m1, final_class, final_too_high, mitigation_tests, refused_final, accepted_final, final_class_of}

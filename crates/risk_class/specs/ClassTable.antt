@@ -1,7 +1,9 @@
 -- Document 01, "The class table".
-use Rattle.std.specs.Prelude.{Bool, cond, ◌||◌, List, [], ◌∷◌, ℕ, ◌-◌, ltb, eqb, get_or}
+use Rattle.std.specs.Prelude.{Bool, cond, ◌||◌, List, [], ◌∷◌, ℕ, ◌-◌, ltb, eqb, get_or, Result}
 use Rattle.arithmetic.specs.Conditions.{outside}
-use Rattle.arithmetic.specs.Refusals.{Test, ◌when◌, answered}
+use Rattle.refusal.specs.Numbers.{answer_as}
+use Rattle.refusal.specs.Refusals.{Test, ◌when◌, answered}
+use Rattle.refusal.specs.declared.Refusal.{Refusal}
 use Rattle.risk_class.specs.declared.class_table.IntrinsicClass.{IntrinsicClass}
 
 -- an entry that is "none"
@@ -60,6 +62,10 @@ refused_class n = record { refusal = n; class = 0 }
 
 abbrev pub accepted_class : ℕ → IntrinsicClass
 accepted_class class = record { refusal = 0; class = class }
+
+-- what an answer of the code stands for: "a definition tells you this paper's number and values for each of its cases"
+abbrev pub intrinsic_answer : Result ℕ Refusal → IntrinsicClass
+intrinsic_answer = answer_as accepted_class refused_class
 
 -- the intrinsic class, or its refusal
 unfoldable pub intrinsic_class_of : ℕ → ℕ → ℕ → IntrinsicClass

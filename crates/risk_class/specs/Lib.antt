@@ -3,3 +3,4 @@ pub mod Mitigation
 pub mod Promises
 pub mod Lower
 pub mod Points
+pub mod PrivateOptions

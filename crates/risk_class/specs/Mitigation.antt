@@ -1,9 +1,11 @@
 -- Document 01, "The mitigation word".
-use Rattle.std.specs.Prelude.{Bool, cond, not, ◌||◌, ◌&&◌, List, [], ◌∷◌, ℕ, ◌+◌, ◌-◌, ◌/◌, ◌%◌, ◌^◌, max, ltb, eqb, ℤ, pos, get_or}
+use Rattle.std.specs.Prelude.{Bool, cond, not, ◌||◌, ◌&&◌, List, [], ◌∷◌, ℕ, ◌+◌, ◌-◌, ◌/◌, ◌%◌, ◌^◌, max, ltb, eqb, ℤ, pos, get_or, Result}
 use Rattle.std.proofs.Math.IntN.{sub_ℕ}
 use Rattle.std.specs.Int.Signed.{lt_z}
 use Rattle.arithmetic.specs.Conditions.{any_below}
-use Rattle.arithmetic.specs.Refusals.{Test, ◌when◌, answered}
+use Rattle.refusal.specs.Numbers.{answer_as}
+use Rattle.refusal.specs.Refusals.{Test, ◌when◌, answered}
+use Rattle.refusal.specs.declared.Refusal.{Refusal}
 use Rattle.risk_class.specs.ClassTable.{rows, class_at, wrong_column}
 use Rattle.risk_class.specs.declared.mitigation.FinalClass.{FinalClass}
 
@@ -72,6 +74,10 @@ refused_final n = record { refusal = n; class = pos 0 }
 
 abbrev pub accepted_final : ℤ → FinalClass
 accepted_final class = record { refusal = 0; class = class }
+
+-- what an answer of the code stands for: "a definition tells you this paper's number and values for each of its cases"
+abbrev pub final_answer : Result ℤ Refusal → FinalClass
+final_answer = answer_as accepted_final refused_final
 
 -- the final class, or its refusal
 unfoldable pub final_class_of : ℕ → ℕ → ℕ → FinalClass

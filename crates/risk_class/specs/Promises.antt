@@ -1,6 +1,6 @@
 -- What is promised of every intrinsic and final class, beyond the definitions. The proofs are in proofs/PromisesHold.antt.
 use Rattle.std.specs.Prelude.{◌≡◌, true, ℕ, ◌≤◌, pos, negsuc, ◌≤ℤ◌}
-use Rattle.arithmetic.specs.Refusals.{AnswerPromise}
+use Rattle.refusal.specs.Refusals.{AnswerPromise}
 use Rattle.risk_class.specs.ClassTable.{class_at, used_row, class_tests, refused_class, accepted_class, intrinsic_class_of}
 use Rattle.risk_class.specs.Mitigation.{is_entry, final_class, mitigation_tests, refused_final, accepted_final, final_class_of}
 use Rattle.risk_class.specs.declared.class_table.IntrinsicClass.{IntrinsicClass}

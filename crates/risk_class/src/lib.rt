@@ -2,6 +2,7 @@
 #![tactic(auto)]
 
 mod class_table;
+mod credits;
 mod mitigation;
 
 pub use class_table::{IntrinsicClass, intrinsic_class, used_row};

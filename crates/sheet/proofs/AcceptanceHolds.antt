@@ -2,8 +2,8 @@
 use mathlib.Core.Path.{refl}
 use Prim.Native.Nat.{ℕ}
 use borrow.Author.Tests.{ltb-true, ltb-false, lt-ltb, le-ltb}
-use Rattle.arithmetic.proofs.RefusalLaws.{use_of}
-use Rattle.arithmetic.proofs.RefusalsHold.{answer_promise}
+use Rattle.refusal.proofs.RefusalLaws.{use_of}
+use Rattle.refusal.proofs.RefusalsHold.{answer_promise}
 use Rattle.sheet.specs.Sheet.{sheet_tests, sheet_with_size_column}
 use Rattle.sheet.specs.Acceptance.{RefusedExactlyWhen, SheetPromise}
 use Rattle.sheet.proofs.RangeLaws.{within, tests_fail}

@@ -4,7 +4,9 @@ use native.Mathlib.Nat.{mul-le-mul, mul-le-mul_left, mul-le-mul_right, add-le-ad
 use native.Mathlib.Omega.{arith}
 use lib.Dec.{lit<}
 use Rattle.arithmetic.proofs.RoundingLaws.{down_mono, up_mono, down_anti, up_anti}
-use Rattle.sheet.specs.Lines.{Formula, whole, six_tenths, glide_only, full_width, glide_of, formula_of, run_rate, run_scale, run_of, saving_times_mass, saving_of, total_at, total_of, area_num, area_den, area_of}
+use Rattle.sheet.specs.declared.Formula.{Formula}
+use Rattle.sheet.specs.declared.Formula.TheVariants.{Whole, SixTenths, GlideOnly}
+use Rattle.sheet.specs.Lines.{full_width, glide_of, formula_of, run_rate, run_scale, run_of, saving_times_mass, saving_of, total_at, total_of, area_num, area_den, area_of}
 use Rattle.sheet.specs.Sheet.{with_lines, lines_with_size_column}
 use Rattle.sheet.specs.Growth.{AreaGrowsWithMassAndSpeed}
 use Rattle.sheet.proofs.FormulaLaws.{denominator_pos}
@@ -27,9 +29,9 @@ total_grows a a' g s s' ha hs =
 -- the numerator of line 6 goes with a and the slide, in one formula
 pub numerator_grows : (f : Formula) (a a' g s s' : ℕ) → a ≤ a' → s ≤ s' →
     area_num f a g (total_at a g s) ≤ area_num f a' g (total_at a' g s')
-numerator_grows whole a a' g s s' ha hs = total_grows a a' g s s' ha hs
-numerator_grows six_tenths a a' g s s' ha hs = mul-le-mul_left 3 (total_grows a a' g s s' ha hs)
-numerator_grows glide_only a a' g s s' ha hs = omega (arith, mul-le-mul_right g ha, mul-le-mul ha ha)
+numerator_grows Whole a a' g s s' ha hs = total_grows a a' g s s' ha hs
+numerator_grows SixTenths a a' g s s' ha hs = mul-le-mul_left 3 (total_grows a a' g s s' ha hs)
+numerator_grows GlideOnly a a' g s s' ha hs = omega (arith, mul-le-mul_right g ha, mul-le-mul ha ha)
 
 pub area_grows : AreaGrowsWithMassAndSpeed
 unfolding lines_with_size_column with_lines area_of total_of

@@ -14,8 +14,13 @@ run_max v h = omega (arith, mul-le-mul h h)
 pub slide_max_lem : (m v : ℕ) → v ≤ speed_max → AtMost (slide_of (run_of v) (saving_of m)) slide_max
 slide_max_lem m v h = omega (arith, run_max v h)
 
-pub total_at_max : (a g s : ℕ) → a ≤ a_max → g ≤ glide_max → s ≤ slide_max → total_at a g s ≤ total_max
+total_at_max : (a g s : ℕ) → a ≤ a_max → g ≤ glide_max → s ≤ slide_max → total_at a g s ≤ total_max
 total_at_max a g s ha hg hs = omega (arith, mul-le-mul ha (add-le-add hg hs), mul-le-mul ha ha)
+
+-- the glide counted twice
+pub glide_total_max : (a : ℕ) → a ≤ a_max → AtMost (total_of a glide_of glide_of) total_max
+unfolding total_of
+glide_total_max a h = (total_at_max a glide_of.low glide_of.low h (omega arith) (omega arith), total_at_max a glide_of.high glide_of.high h (omega arith) (omega arith))
 
 pub total_max_lem : (w m v : ℕ) → w ≤ dimension_max → v ≤ speed_max →
     AtMost (total_of (full_width w) glide_of (slide_of (run_of v) (saving_of m))) total_max

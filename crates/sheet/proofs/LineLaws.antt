@@ -9,7 +9,9 @@ use Rattle.arithmetic.proofs.RoundingLaws.{down_low, down_high, up_high, up_le}
 use Rattle.columns.specs.SizeColumn.{size_column_of}
 use Rattle.columns.specs.Column.{column_of, flag_of}
 use Rattle.sheet.specs.Ranges.{speed_max, InRange}
-use Rattle.sheet.specs.Lines.{Formula, whole, six_tenths, glide_only, full_width, glide_of, run_rate, run_scale, run_of, saving_times_mass, saving_of, slide_of, total_at, total_of, formula_of, glide_only_at, area_num, area_den, area_of}
+use Rattle.sheet.specs.declared.Formula.{Formula}
+use Rattle.sheet.specs.declared.Formula.TheVariants.{Whole, SixTenths, GlideOnly}
+use Rattle.sheet.specs.Lines.{full_width, glide_of, run_rate, run_scale, run_of, saving_times_mass, saving_of, slide_of, total_at, total_of, formula_of, glide_only_at, area_num, area_den, area_of}
 use Rattle.sheet.specs.Sheet.{lines_of, with_lines, lines_with_size_column}
 use Rattle.sheet.proofs.FormulaLaws.{denominator_pos}
 
@@ -77,24 +79,24 @@ total_width : (a g s t : ℕ) → t ≤ s + 4 → total_at a (g + 1) t ≤ total
 total_width a g s t h = omega (arith, mul-le-mul_left a h)
 
 -- a numerator's two ends, as far apart as each formula's, rounded outward
-whole_width : (x y a : ℕ) → y ≤ x + 5 * a → div_up y (area_den whole) ≤ x / area_den whole + 1 + div_up a 20000
+whole_width : (x y a : ℕ) → y ≤ x + 5 * a → div_up y (area_den Whole) ≤ x / area_den Whole + 1 + div_up a 20000
 unfolding div_up
 whole_width x y a h = omega arith
 
-six_tenths_width : (x y a : ℕ) → y ≤ x + 15 * a → div_up y (area_den six_tenths) ≤ x / area_den six_tenths + 1 + div_up a 20000
+six_tenths_width : (x y a : ℕ) → y ≤ x + 15 * a → div_up y (area_den SixTenths) ≤ x / area_den SixTenths + 1 + div_up a 20000
 unfolding div_up
 six_tenths_width x y a h = omega arith
 
-glide_only_width : (x y a : ℕ) → y ≤ x + 2 * a → div_up y (area_den glide_only) ≤ x / area_den glide_only + 1 + div_up a 20000
+glide_only_width : (x y a : ℕ) → y ≤ x + 2 * a → div_up y (area_den GlideOnly) ≤ x / area_den GlideOnly + 1 + div_up a 20000
 unfolding div_up
 glide_only_width x y a h = omega arith
 
 formula_width : (f : Formula) (a g s t : ℕ) → t ≤ s + 4 →
     div_up (area_num_at f a (g + 1) t) (area_den f) ≤ area_num_at f a g s / area_den f + 1 + div_up a 20000
-formula_width whole a g s t h = whole_width _ _ a (total_width a g s t h)
-formula_width six_tenths a g s t h =
+formula_width Whole a g s t h = whole_width _ _ a (total_width a g s t h)
+formula_width SixTenths a g s t h =
     six_tenths_width (3 * total_at a g s) (3 * total_at a (g + 1) t) a (omega (arith, mul-le-mul_left 3 (total_width a g s t h)))
-formula_width glide_only a g s t h = glide_only_width (glide_only_at a g) (glide_only_at a (g + 1)) a (omega arith)
+formula_width GlideOnly a g s t h = glide_only_width (glide_only_at a g) (glide_only_at a (g + 1)) a (omega arith)
 
 -- the two areas differ by at most a twenty-thousandth of the full width, rounded up, and one
 pub area_width : (w m v : ℕ) → InRange w m v → (lines_of w m v).area.high ≤ (lines_of w m v).area.low + 1 + div_up (full_width w) 20000

@@ -5,8 +5,8 @@ use Prim.Native.Nat.{ℕ}
 use borrow.Author.Tests.{ltb-false, le-ltb}
 use lib.Dec.{ltb}
 use Rattle.arithmetic.specs.Conditions.{outside}
-use Rattle.arithmetic.specs.Refusals.{first_refusal}
-use Rattle.arithmetic.proofs.RefusalLaws.{first_exactly_when, use_of}
+use Rattle.refusal.specs.Refusals.{first_refusal}
+use Rattle.refusal.proofs.RefusalLaws.{first_exactly_when, use_of}
 use Rattle.arithmetic.proofs.TestLaws.{inside, not_outside}
 use Rattle.sheet.specs.Ranges.{dimension_min, dimension_max, mass_min, mass_max, speed_max, InRange}
 use Rattle.sheet.specs.Sheet.{range_tests}

@@ -1,6 +1,6 @@
 -- When a sheet is accepted and when it is refused: "A refusal comes when its condition holds and at no other time."
 use Rattle.std.specs.Prelude.{◌≡◌, ◌↔◌, ℕ, ◌≤◌, ◌<◌}
-use Rattle.arithmetic.specs.Refusals.{AnswerPromise}
+use Rattle.refusal.specs.Refusals.{AnswerPromise}
 use Rattle.columns.specs.Column.{last_limit}
 use Rattle.sheet.specs.Ranges.{InRange}
 use Rattle.sheet.specs.declared.SheetAnswer.{SheetAnswer}

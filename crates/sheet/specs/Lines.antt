@@ -2,6 +2,8 @@
 use Rattle.std.specs.Prelude.{cond, ℕ, ◌+◌, ◌-◌, ◌*◌, ltb}
 use Rattle.columns.specs.Bracket.{bracket, rounded_outward}
 use Rattle.columns.specs.declared.Bracket.{Bracket}
+use Rattle.sheet.specs.declared.Formula.{Formula}
+use Rattle.sheet.specs.declared.Formula.TheVariants.{Whole, SixTenths, GlideOnly}
 
 -- "a is w + 600, in millimetres": twice D, the dimension and a person's width
 abbrev pub full_width : ℕ → ℕ
@@ -48,13 +50,8 @@ abbrev pub six_tenths_above : ℕ
 six_tenths_above = 1000
 
 -- the three area formulas: the whole one above the first dimension, six tenths of it above the second, "otherwise" glide only
-pub data Formula : Type 0 where
-  whole : Formula
-  six_tenths : Formula
-  glide_only : Formula
-
 unfoldable pub formula_of : ℕ → Formula
-formula_of w = cond (ltb whole_above w) whole (cond (ltb six_tenths_above w) six_tenths glide_only)
+formula_of w = cond (ltb whole_above w) Whole (cond (ltb six_tenths_above w) SixTenths GlideOnly)
 
 -- "2 × a × glide + 785 × a × a"
 abbrev pub glide_only_at : ℕ → ℕ → ℕ
@@ -63,14 +60,14 @@ glide_only_at a glide = 2 * a * glide + 785 * a * a
 -- "6. Area in square centimetres, low rounded down and high rounded up: T / 100,000 above 8,000 mm;
 -- 3 × T / 500,000 above 1,000 mm; otherwise (2 × a × glide + 785 × a × a) / 200,000."
 abbrev pub area_num : Formula → ℕ → ℕ → ℕ → ℕ
-area_num whole a glide total = total
-area_num six_tenths a glide total = 3 * total
-area_num glide_only a glide total = glide_only_at a glide
+area_num Whole a glide total = total
+area_num SixTenths a glide total = 3 * total
+area_num GlideOnly a glide total = glide_only_at a glide
 
 abbrev pub area_den : Formula → ℕ
-area_den whole = 100000
-area_den six_tenths = 500000
-area_den glide_only = 200000
+area_den Whole = 100000
+area_den SixTenths = 500000
+area_den GlideOnly = 200000
 
 unfoldable pub area_of : Formula → ℕ → Bracket → Bracket → Bracket
 area_of f a glide total =

@@ -1,7 +1,9 @@
 -- The sheet and its refusals.
-use Rattle.std.specs.Prelude.{Bool, List, [], ◌∷◌, ◌++◌, ℕ, ltb}
+use Rattle.std.specs.Prelude.{Bool, List, [], ◌∷◌, ◌++◌, ℕ, ltb, Result}
 use Rattle.arithmetic.specs.Conditions.{outside}
-use Rattle.arithmetic.specs.Refusals.{Test, ◌when◌, answered}
+use Rattle.refusal.specs.Numbers.{answer_as}
+use Rattle.refusal.specs.Refusals.{Test, ◌when◌, answered}
+use Rattle.refusal.specs.declared.Refusal.{Refusal}
 use Rattle.columns.specs.Bracket.{bracket}
 use Rattle.columns.specs.Column.{last_limit, column_and_flag_of}
 use Rattle.columns.specs.SizeColumn.{size_column_of}
@@ -58,6 +60,10 @@ refused_sheet n = record { refusal = n; sheet = zero_sheet }
 abbrev pub accepted_sheet : Sheet → SheetAnswer
 accepted_sheet s = record { refusal = 0; sheet = s }
 
+-- what an answer of the code stands for: "a definition tells you this paper's number and values for each of its cases"
+abbrev pub sheet_answer : Result Sheet Refusal → SheetAnswer
+sheet_answer = answer_as accepted_sheet refused_sheet
+
 -- "1 dimension outside its range; 2 mass; 3 speed"
 abbrev pub wrong_dimension : ℕ → Bool
 wrong_dimension w = outside dimension_min dimension_max w
@@ -86,7 +92,7 @@ area_tests s = 4 when area_too_large s ∷ []
 abbrev pub sheet_tests : ℕ → ℕ → ℕ → List Test
 sheet_tests w m v = range_tests w m v ++ area_tests (lines_of w m v)
 
--- the sheet of an aircraft with any size column, or its refusal. Apart from sheet_of for the boundary's sake (DECISIONS 44).
+-- the sheet of an aircraft with any size column, or its refusal
 unfoldable pub sheet_with_size_column : ℕ → ℕ → ℕ → ℕ → SheetAnswer
 sheet_with_size_column w m v size = answered (sheet_tests w m v) (accepted_sheet (lines_with_size_column w m v size)) refused_sheet
 

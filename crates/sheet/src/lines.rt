@@ -4,10 +4,9 @@ ghost use Rattle.sheet.specs.Ranges.{dimension_max, speed_max};
 ghost use Rattle.columns.specs.Bracket.{rounded_outward};
 ghost use Rattle.sheet.specs.PrivateBounds.{a_max, glide_max, slide_max, total_max, AtMost};
 ghost use Rattle.sheet.specs.Lines.{full_width, glide_of, run_of, saving_of, slide_of, total_at, total_of, formula_of, area_of};
-ghost use Rattle.sheet.specs.PrivateAreaTenths.{area_rule};
+ghost use Rattle.sheet.specs.PrivateAreaTenths.{tenths, total_taken};
 
-use crate::PERSON_WIDTH;
-use arithmetic::difference_or_zero;
+use crate::{Formula, PERSON_WIDTH};
 use columns::Bracket;
 
 // Above the first dimension the whole area formula is taken, above the second six tenths of it; in mm.
@@ -15,14 +14,10 @@ const WHOLE_ABOVE: u64 = 8_000;
 
 const SIX_TENTHS_ABOVE: u64 = 1_000;
 
-pub(crate) fn glide() -> Bracket
-    ensures { result ≡ glide_of }
-{
-    Bracket {
-        low: 2_570_666,
-        high: 2_570_667,
-    }
-}
+pub(crate) const GLIDE: Bracket = Bracket {
+    low: 2_570_666,
+    high: 2_570_667,
+};
 
 // A numerator's two ends over one denominator, the low one rounded down and the high one up.
 fn rounded(low: u64, high: u64, denominator: u64) -> Bracket
@@ -59,8 +54,8 @@ pub(crate) fn saving(mass: u64) -> Bracket
 pub(crate) fn slide(run: Bracket, saving: Bracket) -> Bracket
     ensures { result ≡ slide_of run saving }
 {
-    let low = difference_or_zero(run.low, saving.high);
-    let high = difference_or_zero(run.high, saving.low);
+    let low = run.low.saturating_sub(saving.high);
+    let high = run.high.saturating_sub(saving.low);
     Bracket { low, high }
 }
 
@@ -72,61 +67,63 @@ fn total_at(a: u64, glide: u64, slide: u64) -> u64
     a * (glide + slide + 785 * a)
 }
 
-pub(crate) fn total(a: u64, glide: Bracket, slide: Bracket) -> Bracket
-    requires { (a ≤ a_max) × AtMost glide glide_max × AtMost slide slide_max }
-    ensures { result ≡ total_of a glide slide }
+pub(crate) fn total(a: u64, slide: Bracket) -> Bracket
+    requires { (a ≤ a_max) × AtMost slide slide_max }
+    ensures { result ≡ total_of a glide_of slide }
 {
-    let low = total_at(a, glide.low, slide.low);
-    let high = total_at(a, glide.high, slide.high);
+    let low = total_at(a, GLIDE.low, slide.low);
+    let high = total_at(a, GLIDE.high, slide.high);
     Bracket { low, high }
 }
 
-// How the code takes line 6: so many tenths of a total over 100,000, and whether the slide counts in that total.
-#[derive(Clone, Copy)]
-struct AreaRule {
-    tenths: u64,
-    with_slide: bool,
-}
+// The formulas are compared and not matched: comparisons become conditional moves, where a match branches and takes a sheet from 23.5
+// to 23.9 ns.
+impl Formula {
+    fn of(dimension: u64) -> Formula
+        ensures { result ≡ formula_of dimension }
+    {
+        if WHOLE_ABOVE < dimension {
+            Formula::Whole
+        } else if SIX_TENTHS_ABOVE < dimension {
+            Formula::SixTenths
+        } else {
+            Formula::GlideOnly
+        }
+    }
 
-fn area_rule(dimension: u64) -> AreaRule
-    ensures { result ≡ area_rule (formula_of dimension) }
-{
-    if WHOLE_ABOVE < dimension {
-        return AreaRule {
-            tenths: 10,
-            with_slide: true,
-        };
+    // How many tenths of a total over 100,000 the area is.
+    fn tenths(self) -> u64
+        ensures { result ≡ tenths self }
+    {
+        if self == Formula::Whole {
+            10
+        } else if self == Formula::SixTenths {
+            6
+        } else {
+            5
+        }
     }
-    if SIX_TENTHS_ABOVE < dimension {
-        return AreaRule {
-            tenths: 6,
-            with_slide: true,
-        };
-    }
-    AreaRule {
-        tenths: 5,
-        with_slide: false,
-    }
-}
 
-// The total of which these tenths are. With the glide in the slide's place it is the numerator without slide, 2 × a × glide + 785 × a × a.
-fn area_total(with_slide: bool, a: u64, glide: Bracket, line5: Bracket) -> Bracket
-    requires { (a ≤ a_max) × AtMost glide glide_max × AtMost line5 total_max }
-    ensures value { result ≡ cond with_slide line5 (total_of a glide glide) }
-    ensures at_most { AtMost result total_max }
-{
-    if with_slide {
-        return line5;
+    // The total that they are of. With the glide in the slide's place it is the numerator without slide, 2 × a × glide + 785 × a × a.
+    fn total_taken(self, dimension: u64, line5: Bracket) -> Bracket
+        requires { (dimension ≤ dimension_max) × AtMost line5 total_max }
+        ensures value { result ≡ total_taken self (full_width dimension) glide_of line5 }
+        ensures at_most { AtMost result total_max }
+    {
+        if self == Formula::GlideOnly {
+            return total(dimension + PERSON_WIDTH, GLIDE);
+        }
+        line5
     }
-    total(a, glide, glide)
 }
 
 // The three formulas as one, so that they share two divisions and the dimension chooses numbers, not code. A tenth over 100,000 is one over a million.
-pub(crate) fn area(dimension: u64, glide: Bracket, total: Bracket) -> Bracket
-    requires { (dimension ≤ dimension_max) × AtMost glide glide_max × AtMost total total_max }
-    ensures { result ≡ area_of (formula_of dimension) (full_width dimension) glide total }
+pub(crate) fn area(dimension: u64, line5: Bracket) -> Bracket
+    requires { (dimension ≤ dimension_max) × AtMost line5 total_max }
+    ensures { result ≡ area_of (formula_of dimension) (full_width dimension) glide_of line5 }
 {
-    let rule = area_rule(dimension);
-    let taken = area_total(rule.with_slide, dimension + PERSON_WIDTH, glide, total);
-    rounded(rule.tenths * taken.low, rule.tenths * taken.high, 1_000_000)
+    let formula = Formula::of(dimension);
+    let tenths = formula.tenths();
+    let taken = formula.total_taken(dimension, line5);
+    rounded(tenths * taken.low, tenths * taken.high, 1_000_000)
 }

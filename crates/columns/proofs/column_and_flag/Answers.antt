@@ -7,8 +7,8 @@ pub loop-k-init : goal.loop-k-init
 unfolding flagged_to
 loop-k-init c = (omega arith, by_all_limits c.args.area, refl)
 
-pub returns-then-area-k : goal.returns-then-area-k
-returns-then-area-k c =
+pub returns-then-area-limit : goal.returns-then-area-limit
+returns-then-area-limit c =
     limit_met c.args.area c.loop-k.k (omega arith) c.loop-k.invariant.1 c.loop-k.invariant.2 (omega arith)
 
 pub loop-k-preserved : goal.loop-k-preserved

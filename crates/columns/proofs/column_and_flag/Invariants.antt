@@ -1,5 +1,5 @@
 use mathlib.Core.Path.{◌≡◌}
-use Prim.Native.Nat.{◌-◌, ◌≤◌}
+use Prim.Native.Nat.{◌≤◌}
 use Rattle.columns.specs.Column.{column_of}
 use Rattle.columns.proofs.ColumnFromFirst.{column_from, flagged_to}
 use Rattle.columns.proofs.column_and_flag.Given as goal
@@ -9,6 +9,3 @@ use Rattle.columns.proofs.column_and_flag.Given as goal
 abbrev pub invariant-loop-k : goal.invariant-loop-k
 invariant-loop-k l =
     (l.k ≤ 5) × (column_from l.area.high l.k ≡ column_of l.area.high) × (l.flagged_below ≡ flagged_to l.k)
-
-abbrev pub decreases-loop-k : goal.decreases-loop-k
-decreases-loop-k l = 5 - l.k

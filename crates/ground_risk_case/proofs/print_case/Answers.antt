@@ -1,5 +1,7 @@
-use Rattle.ground_risk_case.proofs.WaysOut.{refused_15, ended_by_reading, not_ended}
 use native.Mathlib.Omega.{arith}
+use mathlib.Core.Path.{refl}
+use Rattle.refusal.proofs.NumberLaws.{number_nonzero}
+use Rattle.ground_risk_case.proofs.WaysOut.{refused_15, refused, accepted}
 use Rattle.ground_risk_case.proofs.print_case.Goals as goal
 
 -- `print_case` answers and leaves what the definitions say.
@@ -7,10 +9,10 @@ use Rattle.ground_risk_case.proofs.print_case.Goals as goal
 pub returns-then-frame-lt-FRAME_LENGTH : goal.returns-then-frame-lt-FRAME_LENGTH
 returns-then-frame-lt-FRAME_LENGTH c = refused_15 _ _ (omega arith)
 
-pub returns-then-reading-ne0 : goal.returns-then-reading-ne0
-returns-then-reading-ne0 c =
-    ended_by_reading _ _ (omega arith) c.read_case-reading.ensures c.if-reading-ne0.true c.write_refusal.ensures.left
+pub returns-in-Ok : goal.returns-in-Ok
+returns-in-Ok c =
+    accepted _ _ (omega arith) c.in-Ok.ensures.left c.in-Ok.ensures.answer refl c.printed_fields.ensures c.write_frame.ensures
 
-pub returns : goal.returns
-returns c =
-    not_ended _ _ (omega arith) c.read_case-reading.ensures c.if-reading-ne0.false c.assess-a.ensures c.printed_fields.ensures c.write_frame.ensures.left
+pub returns-in_ok-write_refusal-in-Err : goal.returns-in_ok-write_refusal-in-Err
+returns-in_ok-write_refusal-in-Err c =
+    refused _ _ (omega arith) c.in-Err.ensures.left c.in-Err.ensures.answer (number_nonzero _) (rw c.into.ensures at c.write_refusal.ensures.left)

@@ -1,6 +1,8 @@
--- `accepted` gives the answer of a dimension and a mass.
+-- `accepted` gives the values of a dimension and a mass.
+use mathlib.Core.Path.{◌∙◌}
 use native.Mathlib.Omega.{arith}
-use Rattle.high_angle.proofs.AnswerMade.{frontal_fits, joules_fit, factor_fits, answer_made}
+use Rattle.columns.proofs.ColumnLaws.{found_within}
+use Rattle.high_angle.proofs.AnswerMade.{frontal_fits, joules_fit, factor_fits, area_fits, answer_made}
 use Rattle.high_angle.proofs.accepted.Goals as goal
 
 pub joules-joules-requires : goal.joules-joules-requires
@@ -19,4 +21,6 @@ area-area-requires c =
 
 pub returns : goal.returns
 returns c =
-    answer_made c.args.dimension c.args.mass c.frontal_area-frontal_area.ensures c.joules-joules.ensures c.factor-factor.ensures c.area-area.ensures c.column_and_flag-found.ensures
+    let fits = area_fits c.args.dimension c.args.mass c.frontal_area-frontal_area.ensures c.joules-joules.ensures c.factor-factor.ensures (omega arith) c.area-area.ensures in
+    let known = c.column_and_flag.ensures ∙ found_within c.area-area.result fits in
+    answer_made c.args.dimension c.args.mass c.frontal_area-frontal_area.ensures c.joules-joules.ensures c.factor-factor.ensures c.area-area.ensures (rw known at c.unwrap_or_default-found.ensures)

@@ -1,31 +1,24 @@
-use Rattle.std.proofs.Common.{◌≡◌, ℕ, ◌-◌, Bool, false, ◌&&◌, eqb, leb, List, [], ◌∷◌, length, get_or, sym, refl, ap, ◌∙◌, ap₂, arith, rules}
+use Rattle.std.proofs.Common.{◌≡◌, ℕ, Bool, ◌&&◌, eqb, leb, length, get_or, sym, refl, ap, ◌∙◌, ap₂, arith}
 use Rattle.arithmetic.specs.Lists.{every}
 use Rattle.arithmetic.proofs.ListLaws.{every_one}
-use Rattle.hex_text.specs.Digits.{is_digit, is_line}
-use Rattle.hex_text.proofs.LineLaws.{max_within}
+use Rattle.hex_text.specs.Digits.{is_digit}
+use Rattle.hex_text.proofs.LineLaws.{empty_no_line, line_is, max_within}
 use Rattle.hex_text.proofs.line.is_line.Goals as goal
 
-empty_no_line : (s : List ℕ) → length s ≡ 0 → is_line s ≡ false
-unfolding is_line every
-empty_no_line [] e = refl
-empty_no_line (b ∷ s) e = absurd (omega arith)
+pub returns-in_default : goal.returns-in_default
+returns-in_default c = sym (empty_no_line _ c.in_default.ensures.cases)
 
-pub returns-then-s-eq0 : goal.returns-then-s-eq0
-returns-then-s-eq0 c = sym (empty_no_line _ c.if-s-eq0.true)
-
-pub loop-i-init : goal.loop-i-init
+pub loop-digit-init : goal.loop-digit-init
 unfolding every
-loop-i-init c = (search rules, refl)
+loop-digit-init c = refl
 
-pub loop-i-preserved : goal.loop-i-preserved
-loop-i-preserved c = (
-  omega arith,
-  ap (λ (x : ℕ). leb x 5) c.larger-largest.ensures ∙ max_within c.loop-i.largest c.digit_offset.result 5
-      ∙ ap₂ ◌&&◌ c.loop-i.invariant.1 c.digit_offset.ensures ∙ sym (every_one (λ k. is_digit (get_or c.args.s.now k 0)) c.loop-i.i),
-)
+pub loop-digit-preserved : goal.loop-digit-preserved
+loop-digit-preserved c =
+    ap (λ (x : ℕ). leb x 5) c.max-largest.ensures ∙ max_within c.loop-digit.largest c.digit_offset.result 5
+    ∙ ap₂ ◌&&◌ c.loop-digit.invariant c.digit_offset.ensures ∙ sym (every_one (λ k. is_digit (get_or c.in-Some.digits.now k 0)) c.loop-digit.digit-index)
 
 pub returns : goal.returns
-unfolding is_line
 returns c =
-    let past : c.loop-i.i ≡ length c.args.s.now - 1 = omega arith in
-    ap (λ (good : Bool). good && eqb (get_or c.args.s.now (length c.args.s.now - 1) 0) 10) (rw past at c.loop-i.invariant.1)
+    let past : c.loop-digit.digit-index ≡ length c.in-Some.digits.now = omega arith in
+    ap (λ (good : Bool). good && eqb c.in-Some.last.now 10) (rw past at c.loop-digit.invariant)
+    ∙ sym (line_is _ _ _ c.in-Some.ensures.cases)

@@ -1,19 +1,12 @@
-use lib.Seq.{drop-length}
-use Rattle.std.proofs.Common.{◌≡◌, refl, ◌∙◌, append-nil, arith, length-set, rules}
+use Rattle.std.proofs.Common.{◌≡◌, ◌∙◌, arith}
 use Rattle.hex_text.specs.Digits.{digits}
 use Rattle.hex_text.proofs.DigitLaws.{digits_more}
 use Rattle.hex_text.proofs.writer.write_digits.Goals as goal
 
-pub loop-i-init : goal.loop-i-init
-loop-i-init c = (search rules, refl, simp (drop-length, append-nil))
-
 pub loop-i-preserved : goal.loop-i-preserved
-loop-i-preserved c = (
-  simp length-set (omega arith),
-  simp length-set (omega arith),
-  digits_more c.loop-i.i c.loop-i.rest c.digit_of.result c.loop-i.part (omega arith) (omega arith) c.digit_of.ensures ∙ c.loop-i.invariant.2,
-)
+loop-i-preserved c =
+    digits_more c.loop-i.i c.loop-i.rest c.digit_of.result c.loop-i.part (omega arith) (omega arith) c.digit_of.ensures ∙ c.loop-i.invariant
 
 pub returns : goal.returns
 unfolding digits
-returns c = let past : c.loop-i.i ≡ 0 = omega arith in rw past at c.loop-i.invariant.2
+returns c = let past : c.loop-i.i ≡ 0 = omega arith in rw past at c.loop-i.invariant

@@ -22,8 +22,8 @@ reached x e p = rw (p, e) (largest_low x factor_above)
 
 pub smallest_at_least-high-requires : goal.smallest_at_least-high-requires
 smallest_at_least-high-requires c =
-    (c.largest_at_most-root.ensures.1, omega (arith, reached _ c.largest_at_most-root.ensures.0 c.largest_at_most-root.ensures.1.below), omega arith)
+    (omega (arith, reached _ c.largest_at_most-root.ensures c.largest_at_most-root.result.is_below), omega arith)
 
 pub returns : goal.returns
 returns c =
-    between c.args.joules (omega arith) (omega arith) (omega arith) (omega arith) c.largest_at_most-root.ensures.0 c.smallest_at_least-high.ensures
+    between c.args.joules (omega arith) (omega arith) (omega arith) (omega arith) c.largest_at_most-root.ensures c.smallest_at_least-high.ensures

@@ -15,4 +15,4 @@ pub loop-power-preserved : goal.loop-power-preserved
 loop-power-preserved c = (omega arith, c.fifth-power-in-loop-power.ensures)
 
 pub returns : goal.returns
-returns c = (c.loop-power.invariant.1, omega arith)
+returns c = omega arith

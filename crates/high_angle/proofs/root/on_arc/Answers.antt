@@ -24,20 +24,20 @@ module _ (up rise bend : ℕ) (u : up ≤ 536870911) (r : rise ≤ 536870912) (b
 
 pub overflow_mul-result : goal.overflow_mul-result
 overflow_mul-result c =
-    omega (arith, bend_fits c.args.up c.args.arc.1 c.args.arc.2 (omega arith) c.requires.0.rise_most c.requires.0.bend_most)
+    omega (arith, bend_fits c.args.up c.args.arc.rise c.args.arc.bend (omega arith) c.args.arc.rise_most c.args.arc.bend_most)
 
 pub overflow_sub-result : goal.overflow_sub-result
 overflow_sub-result c =
-    taken_off c.args.up c.args.arc.1 c.args.arc.2 (omega arith) c.requires.0.rise_most c.requires.0.bend_most
+    taken_off c.args.up c.args.arc.rise c.args.arc.bend (omega arith) c.args.arc.rise_most c.args.arc.bend_most
 
 pub overflow_mul-result-2 : goal.overflow_mul-result-2
 overflow_mul-result-2 c =
-    omega (arith, rise_fits c.args.up c.args.arc.1 c.args.arc.2 (omega arith) c.requires.0.rise_most c.requires.0.bend_most)
+    omega (arith, rise_fits c.args.up c.args.arc.rise c.args.arc.bend (omega arith) c.args.arc.rise_most c.args.arc.bend_most)
 
 pub overflow_add-result : goal.overflow_add-result
 overflow_add-result c =
-    omega (arith, rise_fits c.args.up c.args.arc.1 c.args.arc.2 (omega arith) c.requires.0.rise_most c.requires.0.bend_most)
+    omega (arith, rise_fits c.args.up c.args.arc.rise c.args.arc.bend (omega arith) c.args.arc.rise_most c.args.arc.bend_most)
 
 pub returns : goal.returns
 returns c =
-    omega (arith, rise_fits c.args.up c.args.arc.1 c.args.arc.2 (omega arith) c.requires.0.rise_most c.requires.0.bend_most)
+    omega (arith, rise_fits c.args.up c.args.arc.rise c.args.arc.bend (omega arith) c.args.arc.rise_most c.args.arc.bend_most)

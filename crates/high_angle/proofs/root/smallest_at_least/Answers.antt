@@ -20,13 +20,13 @@ module _ (x : ℕ) (h : x ≤ scaled_max) where
 
 pub returns-then-from-x : goal.returns-then-from-x
 returns-then-from-x c =
-    met c.args.x c.requires.2 c.args.from.low (omega arith)
+    met c.args.x c.requires.1 c.args.from.low (omega arith)
 
 pub overflow_add-high : goal.overflow_add-high
-overflow_add-high c = omega (arith, short c.args.x c.requires.2 c.args.from.low (omega arith), smallest_most c.args.x factor_above)
+overflow_add-high c = omega (arith, short c.args.x c.requires.1 c.args.from.low (omega arith), smallest_most c.args.x factor_above)
 
 pub loop-power-init : goal.loop-power-init
-loop-power-init c = (short c.args.x c.requires.2 c.args.from.low (omega arith), c.requires.0.above)
+loop-power-init c = (short c.args.x c.requires.1 c.args.from.low (omega arith), c.args.from.is_above)
 
 pub overflow_add-high-in-loop-power : goal.overflow_add-high-in-loop-power
 overflow_add-high-in-loop-power c = omega (arith, smallest_most c.args.x factor_above)
@@ -36,11 +36,11 @@ fifth-power-requires c = omega (arith, smallest_most c.args.x factor_above)
 
 pub loop-power-smaller : goal.loop-power-smaller
 loop-power-smaller c =
-    omega (arith, short c.args.x c.requires.2 c.loop-power.high (omega arith))
+    omega (arith, short c.args.x c.requires.1 c.loop-power.high (omega arith))
 
 pub loop-power-preserved : goal.loop-power-preserved
 loop-power-preserved c =
-    (short c.args.x c.requires.2 c.loop-power.high (omega arith), c.fifth-power.ensures)
+    (short c.args.x c.requires.1 c.loop-power.high (omega arith), c.fifth-power.ensures)
 
 pub returns : goal.returns
 returns c =

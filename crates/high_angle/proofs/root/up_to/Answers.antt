@@ -18,14 +18,14 @@ module _ (x : ℕ) (h : x ≤ scaled_max) where
       le_antisymm l (omega (arith, power_below (largest factor_above x) (n + 1) (omega (arith, largest_low x factor_above))))
 
 pub overflow_add-low : goal.overflow_add-low
-overflow_add-low c = omega (arith, reached c.args.x c.requires.2 c.args.from.base (omega arith), largest_most c.args.x factor_above)
+overflow_add-low c = omega (arith, reached c.args.x c.requires.1 c.args.from.base (omega arith), largest_most c.args.x factor_above)
 
 pub fifth-above-requires : goal.fifth-above-requires
-fifth-above-requires c = omega (arith, reached c.args.x c.requires.2 c.args.from.base (omega arith), largest_most c.args.x factor_above)
+fifth-above-requires c = omega (arith, reached c.args.x c.requires.1 c.args.from.base (omega arith), largest_most c.args.x factor_above)
 
 pub loop-above-init : goal.loop-above-init
 loop-above-init c =
-    (reached c.args.x c.requires.2 c.args.from.base (omega arith), c.requires.0, c.fifth-above.ensures)
+    (reached c.args.x c.requires.1 c.args.from.base (omega arith), c.args.from.is_fifth, c.fifth-above.ensures)
 
 pub overflow_add-low-in-loop-above : goal.overflow_add-low-in-loop-above
 overflow_add-low-in-loop-above c = omega (arith, largest_most c.args.x factor_above)
@@ -38,12 +38,12 @@ fifth-above-requires-in-loop-above c = omega (arith, largest_most c.args.x facto
 
 pub loop-above-smaller : goal.loop-above-smaller
 loop-above-smaller c =
-    omega (arith, reached c.args.x c.requires.2 (c.loop-above.low + 1) (omega arith))
+    omega (arith, reached c.args.x c.requires.1 (c.loop-above.low + 1) (omega arith))
 
 pub loop-above-preserved : goal.loop-above-preserved
 loop-above-preserved c =
-    (reached c.args.x c.requires.2 (c.loop-above.low + 1) (omega arith), c.loop-above.invariant.2, c.fifth-above-in-loop-above.ensures)
+    (reached c.args.x c.requires.1 (c.loop-above.low + 1) (omega arith), c.loop-above.invariant.2, c.fifth-above-in-loop-above.ensures)
 
 pub returns : goal.returns
 returns c =
-    (found c.args.x c.requires.2 c.loop-above.low c.loop-above.invariant.0 (omega arith), record { below = c.loop-above.invariant.1; above = c.loop-above.invariant.2 })
+    found c.args.x c.requires.1 c.loop-above.low c.loop-above.invariant.0 (omega arith)

@@ -7,14 +7,13 @@ use lib.Dec.{ltb}
 use Rattle.arithmetic.specs.Lists.{part}
 use Rattle.arithmetic.specs.Conditions.{any_below}
 use Rattle.arithmetic.proofs.TestLaws.{any_same, any_add}
-use Rattle.arithmetic.proofs.PartLaws.{slice_length, slice_at}
-use Rattle.map.specs.Size.{map_rows, map_columns}
+use Rattle.arithmetic.proofs.PartLaws.{slice_at}
+use Rattle.map.specs.Size.{map_columns, map_cells}
 use Rattle.map.specs.Map.{largest_count}
 use Rattle.map.specs.Refusals.{above_range}
 use Rattle.map.specs.PrivateCounts.{wrong_row}
+use Rattle.map.proofs.RowLaws.{rows_length, row_is_part}
 use Rattle.map.proofs.counts.wrong_count.Goals as goal
-
--- `map::counts::wrong_count` meets its contract. The loop's invariant: the test of the map rows passed.
 
 -- one map row more, lent as a part of the counts
 row_next : (counts : List ℕ) (r : ℕ) → (any_below (above_range counts) (map_columns * r) || wrong_row (part counts (map_columns * r) (map_columns * r + map_columns))) ≡ any_below (above_range counts) (map_columns * (r + 1))
@@ -26,19 +25,20 @@ row_next counts r =
     ∙ sym (any_add (above_range counts) from map_columns)
     ∙ ap (any_below (above_range counts)) next
 
-pub loop-r-init : goal.loop-r-init
+pub loop-row-init : goal.loop-row-init
 unfolding any_below
-loop-r-init c = (omega arith, refl)
+loop-row-init c = refl
 
-pub wrong_row-any-requires : goal.wrong_row-any-requires
-wrong_row-any-requires c =
-    slice_length c.args.counts.now (map_columns * c.loop-r.r) map_columns (omega arith)
-
-pub loop-r-preserved : goal.loop-r-preserved
-loop-r-preserved c =
-    (omega arith, ap₂ (λ (x y : Bool). x || y) c.loop-r.invariant.1 c.wrong_row-any.ensures ∙ row_next c.args.counts.now c.loop-r.r)
+pub loop-row-preserved : goal.loop-row-preserved
+loop-row-preserved c =
+    let counts = c.args.counts.now in
+    let r = c.loop-row.row-index in
+    let rows = rows_length counts c.told-counts c.as_chunks.ensures.front in
+    let row = row_is_part counts c.told-counts c.as_chunks.ensures.front r (omega (arith, c.loop-row-test.true, rows)) in
+    ap₂ (λ (x y : Bool). x || y) c.loop-row.invariant (c.wrong_row-any.ensures ∙ ap wrong_row row) ∙ row_next counts r
 
 pub returns : goal.returns
 returns c =
-    let past : map_columns * c.loop-r.r ≡ map_columns * map_rows = omega arith in
-    c.loop-r.invariant.1 ∙ ap (any_below (above_range c.args.counts.now)) past
+    let counts = c.args.counts.now in
+    let past : map_columns * c.loop-row.row-index ≡ map_cells = omega (arith, rows_length counts c.told-counts c.as_chunks.ensures.front) in
+    c.loop-row.invariant ∙ ap (any_below (above_range counts)) past

@@ -1,60 +1,45 @@
 use mathlib.Core.Path.{◌≡◌, refl, sym, ap, ◌∙◌}
-use mathlib.Core.Bool.{Bool, true, false}
-use mathlib.Core.List.{List}
-use Prim.Native.Nat.{ℕ, ◌+◌, ◌^◌, ◌≤◌, ◌<◌}
+use mathlib.Core.Logic.{⊎_elim}
+use mathlib.Core.Bool.{Bool, ◌||◌}
+use Prim.Native.Nat.{ℕ, zero, suc, ◌≤◌, ◌<◌, max}
 use native.Mathlib.Omega.{arith}
-use borrow.Author.Tests.{ltb-false, le-ltb, leb-true, leb-false}
-use lib.Dec.{leb}
-use Rattle.arithmetic.proofs.TestLaws.{any_none, none_any}
-use Rattle.arithmetic.proofs.OrLaws.{le_or, or_below_lem}
+use borrow.Author.Tests.{lt-ltb, le-ltb}
+use lib.Dec.{ltb}
+use Rattle.arithmetic.specs.Conditions.{any_below}
+use Rattle.arithmetic.specs.SumsAndMaxima.{max_below}
+use Rattle.arithmetic.proofs.SumLaws.{max_next}
+use Rattle.arithmetic.proofs.TestLaws.{lt_or_le}
 use Rattle.map.specs.Size.{map_columns}
 use Rattle.map.specs.Map.{largest_count, count_at}
-use Rattle.map.specs.Refusals.{above_range}
-use Rattle.map.specs.PrivateCounts.{wrong_row, raised, row_or}
 use Rattle.map.proofs.counts.wrong_row.Goals as goal
 
--- `map::counts::wrong_row` meets its contract: no count is larger than the bitwise or, which has no more bits than the counts.
+module _ (limit : ℕ) where
+  -- the larger of two is above a limit where one of them is
+  larger_above : (a b : ℕ) → ltb limit (max a b) ≡ (ltb limit a || ltb limit b)
+  larger_above a b =
+      ⊎_elim (λ (h : limit < a). simp (lt-ltb limit a h) (lt-ltb limit (max a b) (omega arith)))
+      (λ (h : a ≤ limit).
+      simp (le-ltb limit a h)
+      (⊎_elim (λ (k : limit < b). lt-ltb limit (max a b) (omega arith) ∙ sym (lt-ltb limit b k))
+      (λ (k : b ≤ limit). le-ltb limit (max a b) (omega arith) ∙ sym (le-ltb limit b k)) (lt_or_le limit b)))
+      (lt_or_le limit a)
 
-module _ (counts : List ℕ) (raise : ℕ) where
-  raised_le : (i : ℕ) → i < map_columns → raised counts raise i ≤ row_or counts raise
-  raised_le = le_or (raised counts raise) map_columns
+  largest_tells : (f : ℕ → ℕ) (n : ℕ) → ltb limit (max_below f n) ≡ any_below (λ i. ltb limit (f i)) n
+  unfolding max_below any_below
+  largest_tells f zero = le-ltb limit 0 (omega arith)
+  largest_tells f (suc n) = larger_above (max_below f n) (f n) ∙ ap (λ (t : Bool). t || ltb limit (f n)) (largest_tells f n)
 
-  none_above : row_or counts raise ≤ largest_count + raise → wrong_row counts ≡ false
-  none_above h =
-      none_any (above_range counts) map_columns (λ i l. le-ltb largest_count (count_at counts i) (omega (arith, raised_le i l)))
+pub loop-count-init : goal.loop-count-init
+unfolding max_below
+loop-count-init c = refl
 
-  some_above : largest_count + raise < 2 ^ 20 → 2 ^ 20 ≤ row_or counts raise → wrong_row counts ≡ true
-  some_above h k = by_test (wrong_row counts) refl
-    where
-      by_test : (t : Bool) → wrong_row counts ≡ t → wrong_row counts ≡ true
-      by_test true e = e
-      by_test false e =
-          let in_range = any_none (above_range counts) map_columns e in
-          let few = or_below_lem (raised counts raise) 20 map_columns (λ i l. omega (arith, ltb-false largest_count (count_at counts i) (in_range i l))) in
-          let no : ⊥ = omega (arith, few) in absurd no
-
-  -- the range's end raised to the last number of 20 bits
-  raised_tells : largest_count + raise + 1 ≡ 2 ^ 20 → leb (2 ^ 20) (row_or counts raise) ≡ wrong_row counts
-  raised_tells h = by_test (leb (2 ^ 20) (row_or counts raise)) refl
-    where
-      by_test : (t : Bool) → leb (2 ^ 20) (row_or counts raise) ≡ t → t ≡ wrong_row counts
-      by_test true e = sym (some_above (omega arith) (leb-true (2 ^ 20) (row_or counts raise) e))
-      by_test false e = sym (none_above (omega (arith, leb-false (2 ^ 20) (row_or counts raise) e)))
-
-pub row_or-all-requires : goal.row_or-all-requires
-row_or-all-requires c = (c.requires, λ i l. omega (arith, c.type_inv.counts i))
-
-pub returns-then-all-le-LARGEST_COUNT : goal.returns-then-all-le-LARGEST_COUNT
-returns-then-all-le-LARGEST_COUNT c = sym (none_above c.args.counts.now 0 (omega arith))
-
-pub returns-then-all-ge-FIRST_OF_21_BITS : goal.returns-then-all-ge-FIRST_OF_21_BITS
-returns-then-all-ge-FIRST_OF_21_BITS c = sym (some_above c.args.counts.now 0 (omega arith) (omega arith))
-
-pub row_or-requires : goal.row_or-requires
-row_or-requires c =
-    (c.requires, λ i l. omega (arith, raised_le c.args.counts.now 0 i l))
+pub loop-count-preserved : goal.loop-count-preserved
+loop-count-preserved c =
+    let count = count_at c.args.counts.now in
+    c.max-most.ensures ∙ ap (λ (x : ℕ). max x (count c.loop-count.count-index)) c.loop-count.invariant ∙ sym (max_next count c.loop-count.count-index)
 
 pub returns : goal.returns
 returns c =
-    ap (leb (2 ^ 20)) c.row_or.ensures
-    ∙ raised_tells c.args.counts.now _ refl
+    let past : c.loop-count.count-index ≡ map_columns = omega arith in
+    ap (ltb largest_count) (c.loop-count.invariant ∙ ap (max_below (count_at c.args.counts.now)) past)
+    ∙ largest_tells largest_count (count_at c.args.counts.now) map_columns

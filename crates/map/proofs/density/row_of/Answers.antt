@@ -1,58 +1,40 @@
-use mathlib.Core.Path.{sym, ◌∙◌}
-use Rattle.map.specs.TableRow.{table_row}
+use mathlib.Core.Path.{◌≡◌, refl, sym, ap, ◌∙◌}
+use mathlib.Core.Bool.{Bool, true, false, not, cond}
+use mathlib.Core.List.{[], ◌∷◌}
+use Prim.Native.Nat.{ℕ, ◌+◌}
+use Rattle.std.proofs.Common.{Option, Some, None, nat_lt}
+use Rattle.std.specs.List.{position}
+use Rattle.map.specs.TableRow.{below_density, table_row}
 use Rattle.map.proofs.density.row_of.Goals as goal
 
--- `map::density::row_of` meets its contract: at each return, the tests that failed before it, and its own.
+-- `map::density::row_of` meets its contract: the first of the five densities tells the row.
 
-pub returns-then-below_density : goal.returns-then-below_density
-unfolding table_row
-returns-then-below_density c = simp (sym c.below_density.ensures ∙ c.if-below_density.true)
+row_from : Option ℕ → ℕ
+row_from (Some i) = 2 + i
+row_from None = 7
 
-pub returns-then-below_density-2 : goal.returns-then-below_density-2
-unfolding table_row
-returns-then-below_density-2 c =
-    simp (
-      sym c.below_density.ensures ∙ c.if-below_density.false,
-      sym c.below_density-2.ensures ∙ c.if-below_density-2.true,
-    )
+-- how many of five tests fail before the first that passes
+failed : Bool → Bool → Bool → Bool → Bool → ℕ
+failed a b c d e = cond (not a) (1 + cond (not b) (1 + cond (not c) (1 + cond (not d) (1 + cond (not e) (1 + 0) 0) 0) 0) 0) 0
 
-pub returns-then-below_density-3 : goal.returns-then-below_density-3
-unfolding table_row
-returns-then-below_density-3 c =
-    simp (
-      sym c.below_density.ensures ∙ c.if-below_density.false,
-      sym c.below_density-2.ensures ∙ c.if-below_density-2.false,
-      sym c.below_density-3.ensures ∙ c.if-below_density-3.true,
-    )
+by_tests : (a b c d e : Bool) → row_from (cond (nat_lt (failed a b c d e) 5) (Some (failed a b c d e)) None) ≡ cond a 2 (cond b 3 (cond c 4 (cond d 5 (cond e 6 7))))
+unfolding row_from failed
+by_tests true b c d e = refl
+by_tests false true c d e = refl
+by_tests false false true d e = refl
+by_tests false false false true e = refl
+by_tests false false false false true = refl
+by_tests false false false false false = refl
 
-pub returns-then-below_density-4 : goal.returns-then-below_density-4
-unfolding table_row
-returns-then-below_density-4 c =
-    simp (
-      sym c.below_density.ensures ∙ c.if-below_density.false,
-      sym c.below_density-2.ensures ∙ c.if-below_density-2.false,
-      sym c.below_density-3.ensures ∙ c.if-below_density-3.false,
-      sym c.below_density-4.ensures ∙ c.if-below_density-4.true,
-    )
+first_tells : (people area : ℕ) {o : Option ℕ} → o ≡ position (below_density people area) (5 ∷ 50 ∷ 500 ∷ 5000 ∷ 50000 ∷ []) → row_from o ≡ table_row people area
+unfolding table_row failed
+first_tells people area e =
+    ap row_from e ∙ by_tests (below_density people area 5) (below_density people area 50) (below_density people area 500) (below_density people area 5000) (below_density people area 50000)
 
-pub returns-then-below_density-5 : goal.returns-then-below_density-5
-unfolding table_row
-returns-then-below_density-5 c =
-    simp (
-      sym c.below_density.ensures ∙ c.if-below_density.false,
-      sym c.below_density-2.ensures ∙ c.if-below_density-2.false,
-      sym c.below_density-3.ensures ∙ c.if-below_density-3.false,
-      sym c.below_density-4.ensures ∙ c.if-below_density-4.false,
-      sym c.below_density-5.ensures ∙ c.if-below_density-5.true,
-    )
+pub returns-in-Some : goal.returns-in-Some
+unfolding row_from
+returns-in-Some c = first_tells c.args.people c.args.area (sym c.in-Some.is ∙ c.first_above.ensures)
 
-pub returns : goal.returns
-unfolding table_row
-returns c =
-    simp (
-      sym c.below_density.ensures ∙ c.if-below_density.false,
-      sym c.below_density-2.ensures ∙ c.if-below_density-2.false,
-      sym c.below_density-3.ensures ∙ c.if-below_density-3.false,
-      sym c.below_density-4.ensures ∙ c.if-below_density-4.false,
-      sym c.below_density-5.ensures ∙ c.if-below_density-5.false,
-    )
+pub returns-in-None : goal.returns-in-None
+unfolding row_from
+returns-in-None c = first_tells c.args.people c.args.area (sym c.in-None.is ∙ c.first_above.ensures)
