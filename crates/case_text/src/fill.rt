@@ -26,7 +26,8 @@ const AFTER_TWO_WORDS: u64 = 1 << 32;
 // The words of a line of counts.
 const WORDS: usize = 2 * MAP_COLUMNS;
 
-// The four bytes from a place on as one number.
+// The four bytes from a place on as one number. Here and below a text goes with a place in it: a slice from the place on would have to be
+// taken for each, and what it holds be said of the whole text again.
 fn word_at(s: &[u8], at: usize) -> u32
     requires { at + 4 ≤ length s.now }
     ensures { result ≡ word_at s.now at }

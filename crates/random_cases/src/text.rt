@@ -33,23 +33,19 @@ fn write_head(text: &mut [u8], case: RandomCase) {
 }
 
 // The marks of a footprint row.
-fn draw_row(case: RandomCase, source: &mut Source, row: usize) -> u64 {
+fn draw_row(case: &mut RandomCase, row: usize) -> u64 {
     match case.rows {
-        None => source.bits_64(),
+        None => case.source.bits_64(),
         Some(rows) if rows.first <= row && row <= rows.last => rows.marks,
         Some(_) => 0,
     }
 }
 
-fn write_rows(text: &mut [u8], case: RandomCase, source: &mut Source) {
+fn write_rows(text: &mut [u8], case: &mut RandomCase) {
     for row in 0..ROWS {
+        let marks = draw_row(case, row);
         let end = FOOTPRINT.place(row, FOOTPRINT_DIGITS);
-        write_number(
-            text,
-            FOOTPRINT.place(row, 0),
-            end,
-            draw_row(case, source, row),
-        );
+        write_number(text, FOOTPRINT.place(row, 0), end, marks);
         write_byte(text, end, LINE_END);
     }
 }
@@ -73,9 +69,10 @@ fn write_count(text: &mut [u8], place: usize, count: u64) {
     write_number(text, COUNTS.place(row, digit), end, count);
 }
 
-fn write_counts(text: &mut [u8], case: RandomCase, source: &mut Source) {
+fn write_counts(text: &mut [u8], case: &mut RandomCase) {
     for place in 0..CELLS {
-        write_count(text, place, draw_count(source, case.base, case.spread));
+        let count = draw_count(&mut case.source, case.base, case.spread);
+        write_count(text, place, count);
     }
 }
 
@@ -92,11 +89,10 @@ fn write_single_count(text: &mut [u8], single: Option<SingleCount>) {
 }
 
 // The text of the case, one more line end after it, and the damage.
-pub(crate) fn write_text(text: &mut [u8], case: RandomCase) {
-    let mut source = case.source;
+pub(crate) fn write_text(text: &mut [u8], mut case: RandomCase) {
     write_head(text, case);
-    write_rows(text, case, &mut source);
-    write_counts(text, case, &mut source);
+    write_rows(text, &mut case);
+    write_counts(text, &mut case);
     write_count_line_ends(text);
     write_single_count(text, case.count_1);
     write_single_count(text, case.count_2);
