@@ -47,7 +47,7 @@ uint32_t nb_version(void);
  * tried. */
 #define NB_SHEET_STACK 64u
 #define NB_HIGH_ANGLE_STACK 40u
-#define NB_DESCENT_STACK 128u
+#define NB_DESCENT_STACK 312u
 #define NB_FOOTPRINT_STACK 128u
 #define NB_INTRINSIC_CLASS_STACK 8u
 #define NB_FINAL_CLASS_STACK 184u

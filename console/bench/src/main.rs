@@ -198,7 +198,13 @@ fn damaged(random: &mut Random, damage: fn(&mut Random, &mut Map, &mut u16), byt
     Rc::new(texts)
 }
 
+/// Those whose name begins with BENCH_ONLY, where that is set.
 fn contests() -> Vec<Contest> {
+    let only = std::env::var("BENCH_ONLY").unwrap_or_default();
+    all_contests().into_iter().filter(|contest| contest.name.starts_with(&only)).collect()
+}
+
+fn all_contests() -> Vec<Contest> {
     let mut random = Random(0x9e37_79b9_7f4a_7c15);
     let random = &mut random;
     let mut aircraft = Vec::new();

@@ -1,3 +1,4 @@
 pub mod Descent
 pub mod Promises
 pub mod PrivatePredicted
+pub mod PrivateSettled

@@ -5,9 +5,10 @@ ghost use Rattle.std.specs.Prelude.{◌≡◌};
 ghost use Rattle.descent.specs.Descent.{body_of, first_state, landed, landed_answer, descent_answer, fall_from, descent_of};
 
 mod predict;
+mod settled;
 
 use crate::predict::{Progress, Speeds};
-use fall::{Body, Fall, speed_of, step};
+use fall::{Body, Fall, same_above_zero, step};
 use frontal_area::{check_multirotor, frontal_area};
 use refusal::Refusal;
 use sheet::Aircraft;
@@ -83,10 +84,12 @@ impl Course {
         let mut at = Progress {
             state: first,
             steps: 0,
-            speeds: Speeds(0.0, 0.0, 0.0, 0.0),
+            speeds: Speeds(0.0, 0.0, 0.0, 0.0, 0.0),
         };
+        let mut last = None;
         while at.steps < self.budget {
-            let state = step(self.body, at.state);
+            let (state, found) = step(self.body, at.state, last);
+            last = Some(found);
             let steps = at.steps + 1;
             if (state.horizontal < 0.0) | (state.downward < 0.0) {
                 return Err(Refusal::NegativeSpeed);
@@ -94,16 +97,18 @@ impl Course {
             if state.fallen >= self.height {
                 return Ok(landed_after(steps, state));
             }
-            let terminal = state.downward == at.state.downward;
-            let speeds = at.speeds.with_latest(speed_of(at.state));
-            at = self.confirmed_steps(
-                terminal,
-                Progress {
-                    state,
-                    steps,
-                    speeds,
-                },
-            );
+            if same_above_zero(at.state.horizontal, state.horizontal)
+                & same_above_zero(at.state.downward, state.downward)
+            {
+                return self.settled_fall(state, steps);
+            }
+            let speeds = at.speeds.with_latest(found.speed);
+            let next = Progress {
+                state,
+                steps,
+                speeds,
+            };
+            at = self.steps_ahead(at.state, next);
         }
         Err(Refusal::BudgetSpent)
     }

@@ -4,7 +4,7 @@ use mathlib.Core.Bool.{Bool, true, false, cond, ◌&&◌, ◌||◌, beq, false�
 use Prim.Native.Nat.{ℕ, zero, suc, ◌+◌, ◌-◌, ◌*◌, ◌/◌, ◌^◌, ◌<◌}
 use native.Mathlib.Nat.{lt_irrefl, mul_right_comm, mul-pos, zero-lt-suc}
 use native.Mathlib.Omega.{arith}
-use lib.Dec.{T, eqb, lit<}
+use lib.Dec.{T, eqb}
 use lib.Count.{count_trailing_zeros}
 use lib.IntN.{ℤ, pos}
 use lib.Ieee.{Float, nan, inf, fin, binary64, prec, low, top, hid, up, down, size, fits, eq, lt, add, mul, div, to_bits, of_bits, of_int, round, span, climb, units, odd}
@@ -14,7 +14,7 @@ use lib.Ieee.Nearest.{div_same}
 use borrow.Author.Tests.{eqb-true, eqb-false, ne_eqb, ltb-true, le-ltb}
 use Rattle.arithmetic.proofs.TestLaws.{both}
 use Rattle.fall.specs.Numbers.{whole}
-use Rattle.fall.specs.Step.{half, next_guess, after_rounds, speed_of}
+use Rattle.fall.specs.Step.{squares, first_guess, half, next_guess, after_rounds, speed_of}
 use Rattle.fall.specs.declared.Fall.{Fall}
 
 -- as fractions equal, with one sign: the same bits, and so the same
@@ -31,7 +31,7 @@ same_number s m e n d f g h =
     sym (of_bits-to_bits binary64 (fin s m e) f) ∙ ap (of_bits binary64) (same_bits s m e n d h) ∙ of_bits-to_bits binary64 (fin s n d) g
 
 -- only a zero has no numerator
-zero_only : (n : ℕ) (d e : ℤ) → n * up d * down e ≡ 0 → n ≡ 0
+pub zero_only : (n : ℕ) (d e : ℤ) → n * up d * down e ≡ 0 → n ≡ 0
 zero_only zero d e h = refl
 zero_only (suc n) d e h =
     absurd (lt_irrefl 0 (subst (λ (x : ℕ). 0 < x) h (mul-pos (mul-pos (zero-lt-suc n) (up_pos d)) (down_pos e))))
@@ -179,22 +179,9 @@ pub rounds_made : (sum guess : Float) → after_rounds 0 sum guess ≡ guess
 unfolding after_rounds
 rounds_made sum guess = refl
 
--- the second round returns the first one's
-pub two_rounds_enough : (sum first : Float) {one two : Float} → one ≡ next_guess sum first → two ≡ next_guess sum one → eq two one ≡ true → two ≡ after_rounds 6 sum first
-two_rounds_enough sum first {one} {two} e f h =
-    f
-    ∙ guess_stays 5 sum one (rw e (guess_fits sum first)) (ap (λ (x : Float). eq x one) (sym f) ∙ h)
-    ∙ ap (after_rounds 5 sum) e
-    ∙ sym (round_made 6 0 sum first (lit< tt))
-
-pub six_made : (sum first : Float) {one two three four five six : Float} → one ≡ next_guess sum first → two ≡ next_guess sum one → three ≡ next_guess sum two
-    → four ≡ next_guess sum three → five ≡ next_guess sum four → six ≡ next_guess sum five → six ≡ after_rounds 6 sum first
-unfolding after_rounds
-six_made sum first a b c d e f = cc
-
 -- the speed of a state that isn't at rest
 pub speed_by_rounds : (s : Fall) {speed : Float} → (eq s.horizontal (whole 0) && eq s.downward (whole 0)) ≡ false
-    → speed ≡ after_rounds 6 (add binary64 (mul binary64 s.horizontal s.horizontal) (mul binary64 s.downward s.downward)) (add binary64 s.horizontal s.downward)
+    → speed ≡ after_rounds 6 (squares s) (first_guess s)
     → speed ≡ speed_of s
 unfolding speed_of
 speed_by_rounds s f e = simp f e

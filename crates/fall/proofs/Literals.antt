@@ -2,6 +2,7 @@
 use mathlib.Core.Path.{◌≡◌, refl}
 use lib.Count.{count_trailing_zeros}
 use lib.Ieee.{binary64, of_bits, of_fields, of_int, round, size, span, climb, units, odd}
+use Rattle.arithmetic.specs.Fraction.{◌over◌}
 use Rattle.fall.specs.Numbers.{decimal, whole}
 use Rattle.fall.specs.Step.{time_step, half, air_density, drag_coefficient, gravity}
 
@@ -44,3 +45,11 @@ air_density_is = refl
 pub drag_coefficient_is : of_bits binary64 0x3fe9_9999_9999_999a ≡ drag_coefficient
 unfolding decimal of_bits of_fields of_int round size span climb units odd count_trailing_zeros
 drag_coefficient_is = refl
+
+pub billion_is : of_bits binary64 0x41cd_cd65_0000_0000 ≡ whole 1000000000
+unfolding of_bits of_fields of_int round size span climb units odd count_trailing_zeros
+billion_is = refl
+
+pub thousandth_is : of_bits binary64 0x3f50_624d_d2f1_a9fc ≡ decimal (1 over 1000)
+unfolding decimal of_bits of_fields of_int round size span climb units odd count_trailing_zeros
+thousandth_is = refl

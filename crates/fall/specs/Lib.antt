@@ -1,3 +1,4 @@
 pub mod Numbers
 pub mod Step
+pub mod TwoSteps
 pub mod PrivateRounds

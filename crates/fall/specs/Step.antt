@@ -31,13 +31,17 @@ unfoldable pub after_rounds : ℕ → Float → Float → Float
 after_rounds zero sum guess = guess
 after_rounds (suc n) sum guess = after_rounds n sum (next_guess sum guess)
 
--- "Speed is found from the sum of the squares by six rounds: [..] The first guess is the two speeds added; speed is 0 when both are 0."
+abbrev pub squares : Fall → Float
+squares s = add binary64 (mul binary64 s.horizontal s.horizontal) (mul binary64 s.downward s.downward)
+
+-- "The first guess is the two speeds added"
+abbrev pub first_guess : Fall → Float
+first_guess s = add binary64 s.horizontal s.downward
+
+-- "Speed is found from the sum of the squares by six rounds: [..] speed is 0 when both are 0."
 unfoldable pub speed_of : Fall → Float
 speed_of s =
-    cond (eq s.horizontal (whole 0) && eq s.downward (whole 0)) (whole 0)
-    (after_rounds 6
-    (add binary64 (mul binary64 s.horizontal s.horizontal) (mul binary64 s.downward s.downward))
-    (add binary64 s.horizontal s.downward))
+    cond (eq s.horizontal (whole 0) && eq s.downward (whole 0)) (whole 0) (after_rounds 6 (squares s) (first_guess s))
 
 -- "Drag per speed is 0.5 × 1.225 × frontal area × 0.8 × speed, in that order." All but the speed is the body's, the same at every step.
 unfoldable pub drag_factor_of : Float → Float

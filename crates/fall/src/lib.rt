@@ -1,11 +1,14 @@
 // The state of a fall and one step of it, 0.01 s (document 02, item 4). Every operation is in the order of the item's words.
 #![tactic(auto)]
 
-ghost use Rattle.std.specs.Prelude.{◌≡◌};
-ghost use Rattle.fall.specs.Step.{half, next_guess, after_rounds, speed_of, next_state};
-ghost use Rattle.fall.specs.PrivateRounds.{in_range};
-ghost use Rattle.std.specs.Float.{binary64};
-ghost use Rattle.std.specs.Float.Ieee.{mul};
+ghost use Rattle.std.specs.Prelude.{◌≡◌, true, ◌&&◌};
+ghost use Rattle.std.specs.Float.Ieee.{eq, lt};
+ghost use Rattle.fall.specs.Numbers.{whole};
+ghost use Rattle.fall.specs.Step.{squares, first_guess, next_guess, after_rounds, speed_of, fallen_to, next_state};
+
+mod lanes;
+
+pub use lanes::two_steps;
 
 // The state: horizontal and downward speed in m/s, distance fallen in m.
 #[repr(C)]
@@ -45,14 +48,72 @@ fn six_rounds(sum: f64, first: f64) -> f64
     guess
 }
 
-pub fn speed_of(s: Fall) -> f64
-    ensures { result ≡ speed_of s }
+pub fn squares(s: Fall) -> f64
+    ensures { result ≡ squares s }
 {
-    if (s.horizontal == 0.0) & (s.downward == 0.0) {
-        return 0.0;
+    s.horizontal * s.horizontal + s.downward * s.downward
+}
+
+fn first_guess(s: Fall) -> f64
+    ensures { result ≡ first_guess s }
+{
+    s.horizontal + s.downward
+}
+
+// A speed that was found, and what it was found from: another state that has both has the speed too.
+#[derive(Clone, Copy)]
+pub struct FoundSpeed {
+    pub squares: f64,
+    pub first_guess: f64,
+    pub speed: f64,
+    ghost is_found: { speed ≡ after_rounds 6 squares first_guess },
+}
+
+// Above zero two f64 that compare as equal are the same; 0 and -0 compare as equal and aren't.
+pub fn same_above_zero(x: f64, y: f64) -> bool
+    ensures value { result ≡ (eq x y && lt (whole 0) y) }
+    ensures same { result ≡ true → x ≡ y }
+{
+    (x == y) & (0.0 < y)
+}
+
+// Found anew, unless it was the last one found: near terminal speed the squares of the horizontal speed no longer count.
+fn found_speed(s: Fall, last: Option<FoundSpeed>) -> FoundSpeed
+    ensures { (result.squares ≡ squares s) × (result.first_guess ≡ first_guess s) }
+{
+    let squares = squares(s);
+    let first_guess = first_guess(s);
+    if let Some(found) = last
+        && same_above_zero(squares, found.squares)
+        && same_above_zero(first_guess, found.first_guess)
+    {
+        return found;
     }
-    let sum = s.horizontal * s.horizontal + s.downward * s.downward;
-    six_rounds(sum, s.horizontal + s.downward)
+    FoundSpeed {
+        squares,
+        first_guess,
+        speed: six_rounds(squares, first_guess),
+    }
+}
+
+impl FoundSpeed {
+    fn speed_of(self, s: Fall) -> f64
+        requires { (self.squares ≡ squares s) × (self.first_guess ≡ first_guess s) }
+        ensures { result ≡ speed_of s }
+    {
+        if (s.horizontal == 0.0) & (s.downward == 0.0) {
+            0.0
+        } else {
+            self.speed
+        }
+    }
+}
+
+// The distance fallen at the end of a step that makes this downward speed.
+pub fn fallen_to(s: Fall, downward: f64) -> f64
+    ensures { result ≡ fallen_to s downward }
+{
+    s.fallen + 0.5 * (s.downward + downward) * 0.01
 }
 
 // The state after one step, of a state and its speed.
@@ -67,72 +128,14 @@ fn moved(b: Body, s: Fall, speed: f64) -> Fall
     Fall {
         horizontal: s.horizontal - forward_slowing * 0.01,
         downward,
-        fallen: s.fallen + 0.5 * (s.downward + downward) * 0.01,
+        fallen: fallen_to(s, downward),
     }
 }
 
-// The state after one step.
-pub fn step(b: Body, s: Fall) -> Fall
-    ensures { result ≡ next_state b s }
+// The state after one step, and the speed that was found for it. A speed that was found before may serve again.
+pub fn step(b: Body, s: Fall, last: Option<FoundSpeed>) -> (Fall, FoundSpeed)
+    ensures { (result.0 ≡ next_state b s) × (result.1.squares ≡ squares s) × (result.1.first_guess ≡ first_guess s) }
 {
-    moved(b, s, speed_of(s))
-}
-
-// Six rounds of two sums side by side, so that the processor works on both at once. One function for one sum and for two would take arrays,
-// with a loop over the lanes for each operation: no plainer. The test stands after the second round alone, since each waits for its round.
-fn six_rounds_of_two(sum: (f64, f64), first: (f64, f64)) -> (f64, f64)
-    ensures { (result.0 ≡ after_rounds 6 sum.0 first.0) × (result.1 ≡ after_rounds 6 sum.1 first.1) }
-{
-    let one = round_of_two(sum, first);
-    let two = round_of_two(sum, one);
-    if (two.0 == one.0) & (two.1 == one.1) {
-        return two;
-    }
-    let three = round_of_two(sum, two);
-    let four = round_of_two(sum, three);
-    let five = round_of_two(sum, four);
-    round_of_two(sum, five)
-}
-
-fn round_of_two(sum: (f64, f64), guess: (f64, f64)) -> (f64, f64)
-    ensures { (result.0 ≡ next_guess sum.0 guess.0) × (result.1 ≡ next_guess sum.1 guess.1) }
-{
-    (next_guess(sum.0, guess.0), next_guess(sum.1, guess.1))
-}
-
-// Whether doubling and halving are exact in all six rounds. This and `halved` are for rounds that keep twice their guess
-// (proofs/TwiceGuess.antt), which no code makes yet.
-fn in_range(sum: f64, first: f64) -> bool
-    ensures { result ≡ in_range sum first }
-{
-    ((0.0 < sum) & (sum < 1_000_000_000.0)) & (0.001 < first)
-}
-
-fn halved(x: (f64, f64)) -> (f64, f64)
-    ensures { (result.0 ≡ mul binary64 x.0 half) × (result.1 ≡ mul binary64 x.1 half) }
-{
-    (x.0 * 0.5, x.1 * 0.5)
-}
-
-fn speed_of_two(s: Fall, t: Fall) -> (f64, f64)
-    ensures { (result.0 ≡ speed_of s) × (result.1 ≡ speed_of t) }
-{
-    if ((s.horizontal == 0.0) & (s.downward == 0.0))
-        | ((t.horizontal == 0.0) & (t.downward == 0.0))
-    {
-        return (speed_of(s), speed_of(t));
-    }
-    let sum = (
-        s.horizontal * s.horizontal + s.downward * s.downward,
-        t.horizontal * t.horizontal + t.downward * t.downward,
-    );
-    six_rounds_of_two(sum, (s.horizontal + s.downward, t.horizontal + t.downward))
-}
-
-// The states one step after each of two, worked side by side.
-pub fn step_of_two(b: Body, s: Fall, t: Fall) -> (Fall, Fall)
-    ensures { (result.0 ≡ next_state b s) × (result.1 ≡ next_state b t) }
-{
-    let speeds = speed_of_two(s, t);
-    (moved(b, s, speeds.0), moved(b, t, speeds.1))
+    let found = found_speed(s, last);
+    (moved(b, s, found.speed_of(s)), found)
 }

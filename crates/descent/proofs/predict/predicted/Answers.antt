@@ -1,6 +1,5 @@
 use lib.Ieee.{binary64}
 use lib.Ieee.Fits.{add-fits, sub-fits}
-use Rattle.fall.proofs.Literals.{half_is, time_step_is}
 use Rattle.descent.proofs.predict.predicted.Goals as goal
 
 -- `predicted` makes a state whose distance goes with its speeds.
@@ -10,5 +9,5 @@ returns c =
     record {
       horizontal_fits = sub-fits binary64 _ _;
       downward_fits = add-fits binary64 _ _;
-      fallen_is = simp (half_is, time_step_is);
+      fallen_is = c.fallen_to.ensures;
     }
