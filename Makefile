@@ -23,7 +23,8 @@ PROVED_PROGRAM = target/bin/case
 CALLS = $(MADE)/calls
 SOURCES := crates.txt $(shell find crates -name out -prune -o \( -name '*.rt' -o -name '*.antt' \) -print)
 CARGO = cd console && cargo
-FAULTS = a b c m t f r n p j o z d s v l e k g
+COMMA = ,
+FAULTS = a b c m t f r n p j o z d s v l e k g h i q w x H I Q W X
 
 # Where the installed files stand. A space or another character that a shell or pkg-config takes apart is refused before anything is
 # made.
@@ -40,8 +41,8 @@ INTO = $(DESTDIR)$(WHERE)
 INSTALLED = lib/libnuggetbay.a lib/libnuggetbay.so.$(VERSION) lib/$(SONAME) lib/libnuggetbay.so lib/pkgconfig/nuggetbay.pc \
     include/nuggetbay.h bin/nuggetbay-case share/nuggetbay/rust
 
-.PHONY: all help install uninstall clean bench test-boundary test-declarations test-stack test-lent test-valgrind test-faults \
-    test-program test-install test-rust test-bench
+.PHONY: all help install uninstall clean bench trade-off-tables test-boundary test-declarations test-stack test-lent test-valgrind \
+    test-faults test-program test-install test-rust test-bench
 .DELETE_ON_ERROR:
 
 all: $(ARCHIVE) $(SHARED) $(PROGRAM)
@@ -54,6 +55,7 @@ help:
 	@echo 'make test-boundary        what is declared for C, Rust and Python against the library; its calls against the checker, under'
 	@echo '                          unreadable memory and under valgrind; its stack; the programs; what is installed; Rust; the benchmark compiled'
 	@echo 'make bench                the library against obvious and tuned Rust'
+	@echo 'make trade-off-tables     prints the tables of greatest speeds and masses, as docs/TRADE_OFFS.md has them'
 	@echo 'bash .ci/run              all tests, the proofs among them'
 
 $(MADE):
@@ -88,8 +90,14 @@ $(PROGRAM): console/program/nuggetbay-case.c $(ARCHIVE) $(HEADER)
 	$(CC) $(LIBRARY_CFLAGS) -D_DEFAULT_SOURCE -Iconsole/include $< $(ARCHIVE) -o $@
 
 # the examples: case for console/run-case, the others for README
-$(MADE)/case-in-words $(MADE)/high_angle-in-words $(MADE)/descent-in-words: $(MADE)/%-in-words: console/examples/%.c $(ARCHIVE) $(HEADER)
+$(addprefix $(MADE)/,$(addsuffix -in-words,case high_angle descent trade_off)): $(MADE)/%-in-words: console/examples/%.c $(ARCHIVE) $(HEADER)
 	$(CC) $(CFLAGS) -Iconsole/include $< $(ARCHIVE) -o $@
+
+$(MADE)/trade_off_tables: console/examples/trade_off_tables.c $(ARCHIVE) $(HEADER)
+	$(CC) $(CFLAGS) -Iconsole/include $< $(ARCHIVE) -o $@
+
+trade-off-tables: $(MADE)/trade_off_tables
+	@$(MADE)/trade_off_tables
 
 install: all
 	install -d '$(INTO)/lib/pkgconfig' '$(INTO)/include' '$(INTO)/bin' '$(INTO)/share/nuggetbay/rust/src'
@@ -130,14 +138,15 @@ test-stack: $(ARCHIVE) $(MADE)/stack-used
 	python3 console/tests/stack.py $(ARCHIVE) $(MADE)/stack-used
 
 $(CALLS): console/tests/boundary_calls.py $(addprefix checker/,$(addsuffix .py,ground_risk library random_cases flagged_aircraft \
-    high_angle_aircraft high_angle_points descent_aircraft descent_points)) | $(MADE)
+    high_angle_aircraft high_angle_points descent_aircraft descent_points trade_off_aircraft)) | $(MADE)
 	python3 console/tests/boundary_calls.py $@
 
 $(MADE)/boundary: console/tests/boundary.c $(HEADER) $(ARCHIVE)
 	$(CC) $(CFLAGS) -Iconsole/include console/tests/boundary.c $(ARCHIVE) -o $@
 
 $(MADE)/boundary-faults: console/tests/boundary.c console/tests/boundary_faults.c $(HEADER) $(ARCHIVE)
-	$(CC) $(CFLAGS) -Wl,--wrap=nb_case,--wrap=nb_high_angle,--wrap=nb_descent -Iconsole/include console/tests/boundary.c console/tests/boundary_faults.c $(ARCHIVE) -o $@
+	$(CC) $(CFLAGS) $(addprefix -Wl$(COMMA)--wrap=nb_,case high_angle descent greatest_speed greatest_mass) -Iconsole/include \
+	    console/tests/boundary.c console/tests/boundary_faults.c $(ARCHIVE) -o $@
 
 # every lent buffer against unreadable memory on both sides, and NULL where nothing is lent
 test-lent: $(MADE)/boundary $(CALLS)

@@ -33,6 +33,8 @@ REFUSALS = {
     17: "after 1, 2, 3 and 16, the height is outside 1 to 50,000 cm or the step budget outside 1 to 20,000",
     18: "the definition's state after the whole budget is still short of the height",
     19: "a step makes either speed negative",
+    20: "the wanted column isn't 1 to 5",
+    21: "exactly when no such number exists",
 }
 
 # ---------------------------------------------------------------------------
@@ -513,6 +515,73 @@ def descent(w, m, v, height, budget):
     # "18 when the definition's state after the whole budget is still short of
     #  the height."
     return refused_descent(18)
+
+
+# ---------------------------------------------------------------------------
+# The greatest speed and the greatest mass: document 02 item 5, quoted here
+# ---------------------------------------------------------------------------
+
+class GreatestSpeed(NamedTuple):
+    # "Given dimension, mass and a column, the console answers the greatest speed"
+    refusal: int
+    speed: int
+
+
+class GreatestMass(NamedTuple):
+    # "Given dimension, speed and a column, it answers the greatest mass"
+    refusal: int
+    mass: int
+
+
+def passes(w, m, v, column):
+    # "for which the sheet is accepted with a column no higher." "Both use the
+    #  glide model": the sheet's.
+    answer = sheet(w, m, v)
+    return answer.refusal == 0 and answer.column <= column
+
+
+def greatest(limits, number_passes):
+    """The greatest number of a range that passes; None where none does."""
+    # Found by halving, as no number passes after one that doesn't. The dimension
+    # is given, and with it the area formula. More speed never lowers the run,
+    # more mass never raises the saving: neither high slide, high T nor high area
+    # falls, whole numbers as they are, since rounding keeps their order. So the
+    # column doesn't fall either, and refusal 4 is only more area.
+    lowest, highest = limits
+    numbers = range(lowest, highest + 1)
+    passing = bisect_left(numbers, True, key=lambda number: not number_passes(number))
+    return numbers[passing - 1] if passing != 0 else None
+
+
+def wanted_refusal(w, m, v, column):
+    # "the given inputs' range refusals come first. 20 when the wanted column
+    #  isn't 1 to 5."
+    refusal = aircraft_refusal(w, m, v)
+    if refusal == 0 and column not in (1, 2, 3, 4, 5):
+        return 20
+    return refusal
+
+
+def greatest_speed(w, m, column):
+    # no speed is given: the lowest in range stands for it
+    refusal = wanted_refusal(w, m, min(SPEED_RANGE), column)
+    if refusal != 0:
+        return GreatestSpeed(refusal, 0)
+    # "the greatest speed from 0 to 40,000"
+    speed = greatest(SPEED_RANGE, lambda v: passes(w, m, v, column))
+    # "21 exactly when no such number exists."
+    return GreatestSpeed(21, 0) if speed is None else GreatestSpeed(0, speed)
+
+
+def greatest_mass(w, v, column):
+    # no mass is given: the least in range stands for it
+    refusal = wanted_refusal(w, min(MASS_RANGE), v, column)
+    if refusal != 0:
+        return GreatestMass(refusal, 0)
+    # "the greatest mass in range likewise."
+    mass = greatest(MASS_RANGE, lambda m: passes(w, m, v, column))
+    # "21 exactly when no such number exists."
+    return GreatestMass(21, 0) if mass is None else GreatestMass(0, mass)
 
 
 # ---------------------------------------------------------------------------

@@ -40,6 +40,8 @@ HighAngle = struct(
     ("area", Bracket))
 Fall = struct("Fall", ("horizontal", F64), ("downward", F64), ("fallen", F64))
 Descent = struct("Descent", ("refusal", U8), ("above_60", U8), ("steps", U32), ("end", Fall))
+GreatestSpeed = struct("GreatestSpeed", ("refusal", U8), ("speed", U32))
+GreatestMass = struct("GreatestMass", ("refusal", U8), ("mass", U32))
 Footprint = struct("Footprint", ("refusal", U8), ("row", U8), ("place", U32), ("people", U64), ("cells", U32))
 IntrinsicClass = struct("IntrinsicClass", ("refusal", U8), ("class", U8))
 FinalClass = struct("FinalClass", ("refusal", U8), ("class", I8))
@@ -143,6 +145,10 @@ OPERATIONS = {
     "sheet": Operation("nb_sheet", AIRCRAFT, SheetAnswer, lambda *a: outcome(g.sheet(*a))),
     "high angle": Operation("nb_high_angle", AIRCRAFT, HighAngle, lambda *a: outcome(g.high_angle(*a))),
     "descent": Operation("nb_descent", (*AIRCRAFT, *numbers(height=U32, budget=U32)), Descent, lambda *a: outcome(g.descent(*a))),
+    "greatest speed": Operation("nb_greatest_speed", numbers(dimension=U32, mass=U32, column=U8), GreatestSpeed,
+                                lambda *a: outcome(g.greatest_speed(*a))),
+    "greatest mass": Operation("nb_greatest_mass", numbers(dimension=U32, speed=U32, column=U8), GreatestMass,
+                               lambda *a: outcome(g.greatest_mass(*a))),
     "footprint": Operation("nb_footprint", (*MAP, *numbers(cell_area=U32)), Footprint, lambda *a: outcome(g.footprint(*a))),
     "intrinsic class": Operation("nb_intrinsic_class", numbers(column=U8, row=U8, controlled=U8), IntrinsicClass,
                                  lambda *a: outcome(g.intrinsic_class(*a))),

@@ -15,6 +15,7 @@ from unittest import mock
 
 import ground_risk as g
 import library
+import trade_off_aircraft
 
 HERE = Path(__file__).resolve().parent
 CALLS = 400
@@ -73,7 +74,8 @@ class SharesTest(unittest.TestCase):
             self.assertEqual(tuple(parameter.name for parameter in lent), g.Lent._fields)
         self.assertEqual(tuple(name for name, _ in library.CaseHead._fields_), g.Fields._fields)
         self.assertEqual(tuple(name for name, _ in library.FrameFields._fields_), g.Frame._fields)
-        for struct, answer in ((library.HighAngle, g.HighAngle), (library.Descent, g.Descent), (library.Fall, g.Fall)):
+        for struct, answer in ((library.HighAngle, g.HighAngle), (library.Descent, g.Descent), (library.Fall, g.Fall),
+                               (library.GreatestSpeed, g.GreatestSpeed), (library.GreatestMass, g.GreatestMass)):
             self.assertEqual(tuple(name for name, _ in struct._fields_), answer._fields)
         self.assertEqual(["t" if name == "total" else name for name, _ in library.Sheet._fields_], list(g.Sheet._fields[1:]))
         self.assertEqual(set(compare.BUFFERS), set(g.Lent._fields))
@@ -209,11 +211,41 @@ class CallsTest(unittest.TestCase):
         for kind in ("last", "later", "one short"):
             self.assertGreater(budgets[kind], 50, kind)
 
+    def test_columns_are_asked_for_at_every_edge(self):
+        for name, number, most in (("greatest speed", "mass", 40_000), ("greatest mass", "speed", 25_000_000)):
+            names = [parameter.name for parameter in library.OPERATIONS[name].parameters]
+            self.assertEqual(names, ["dimension", number, "column"])
+            answers, ends, edges, dimensions = Counter(), Counter(), Counter(), Counter()
+            for n in range(2_500):
+                rng = random.Random(n)
+                values = compare.drawn(rng, names)
+                compare.for_a_column(rng, values)
+                self.assertEqual(list(values), names)
+                answer = library.OPERATIONS[name].said(*values.values()).answer
+                answers[answer[0], values["column"] if answer[0] == 0 else 0] += 1
+                ends["none" if answer[0] else "all" if answer[1] == most else "50 g" if answer[1] == 50 and most > 40_000 else "some"] += 1
+                edges.update((key, values[key]) for key in values)
+                dimensions[values["dimension"]] += answer[0] in (0, 21)
+            given = 2 if number == "mass" else 3
+            self.assertEqual(set(answers), {*((refusal, 0) for refusal in (1, given, 20, 21)),
+                                            *((0, column) for column in (1, 2, 3, 4, 5))})
+            self.assertGreater(min(answers.values()), 20)
+            for column in (1, 2, 3, 4, 5):
+                self.assertGreater(answers[0, column], 150, column)
+            for kind in ("none", "all", "some", *(["50 g"] if most > 40_000 else [])):
+                self.assertGreater(ends[kind], 80, (name, kind))
+            for key in names:
+                for edge in compare.EDGES[key]:
+                    self.assertGreater(edges[key, edge], 0, (name, key, edge))
+            for w in (*(dimension for dimension, _ in g.SIZE_PAIRS), *trade_off_aircraft.LARGEST.values()):
+                for off in (-1, 0, 1):
+                    self.assertGreater(dimensions[w + off], 5, (name, w + off))
+
     def test_a_text_shows_the_call(self):
         values = {"dimension": 2_000, "mass": 3_000, "speed": 4_000}
         reading = g.read_case(compare.as_text("sheet", values), g.zeros())
         self.assertEqual((reading.refusal, reading.fields[:3]), (0, (2_000, 3_000, 4_000)))
-        for name in ("high angle", "descent"):
+        for name in ("high angle", "descent", "greatest speed", "greatest mass"):
             self.assertIsNone(compare.as_text(name, values))
         self.assertIsNone(compare.as_text("intrinsic class", {"column": 1, "row": 2, "controlled": 0}))
         self.assertIsNone(compare.as_text("footprint", {"counts": [1], "marks": [0] * g.ROWS, "cell_area": 100}))

@@ -31,7 +31,7 @@ extern "C" {
  * is new. A library serves a program that was built with this header where its major number is the same and nb_version() is at
  * least NB_VERSION. */
 #define NB_VERSION_MAJOR 3
-#define NB_VERSION_MINOR 2
+#define NB_VERSION_MINOR 3
 #define NB_VERSION_PATCH 0
 #define NB_VERSION (NB_VERSION_MAJOR * 10000 + NB_VERSION_MINOR * 100 + NB_VERSION_PATCH)
 
@@ -48,6 +48,8 @@ uint32_t nb_version(void);
 #define NB_SHEET_STACK 64u
 #define NB_HIGH_ANGLE_STACK 40u
 #define NB_DESCENT_STACK 312u
+#define NB_GREATEST_SPEED_STACK 8u
+#define NB_GREATEST_MASS_STACK 8u
 #define NB_FOOTPRINT_STACK 128u
 #define NB_INTRINSIC_CLASS_STACK 8u
 #define NB_FINAL_CLASS_STACK 184u
@@ -106,7 +108,9 @@ uint32_t nb_version(void);
     R(16, NB_FRONTAL_DIMENSION, "no frontal area for this dimension: 1,000 to 40,000 mm is allowed") \
     R(17, NB_HEIGHT_OR_BUDGET, "height or step budget out of range: 1 to 50,000 cm and 1 to 20,000 steps are allowed") \
     R(18, NB_BUDGET_SPENT, "step budget spent before the ground is reached: more steps are needed, at most 20,000 are allowed") \
-    R(19, NB_NEGATIVE_SPEED, "a step makes a speed negative: too light for its frontal area and speed, more mass or less speed is needed for steps of 0.01 s")
+    R(19, NB_NEGATIVE_SPEED, "a step makes a speed negative: too light for its frontal area and speed, more mass or less speed is needed for steps of 0.01 s") \
+    R(20, NB_WANTED_COLUMN, "wanted column out of range: 1 to 5 is allowed") \
+    R(21, NB_NONE_FOR_COLUMN, "no speed or mass in range gives this column or a lower one: a higher column, a smaller dimension or, for a mass, less speed is needed")
 
 #define NB_REFUSAL_NUMBER(number, name, message) name = number,
 enum nb_refusal { NB_REFUSALS(NB_REFUSAL_NUMBER) NB_ACCEPTED = 0 };
@@ -216,6 +220,36 @@ typedef struct {
  * Refusals: 1, 2, 3, 16 as nb_high_angle; 17 where the height or the budget is out of range; then at each new state 19, where a
  * speed is negative, before it is held to the height; 18 where the state after the whole budget is still short of the height. */
 nb_descent_t nb_descent(uint32_t dimension, uint32_t mass, uint32_t speed, uint32_t height, uint32_t budget);
+
+/* ---- The greatest speed and the greatest mass for a column ---- */
+
+/* The trade-off that Annex F, section 1.7.4, makes by tables, made for one aircraft by the sheet's own model: how fast it may fly, or
+ * how heavy it may be, for its sheet to have a column that is wanted, or a lower one. The answer is the greatest number in range for which nb_sheet accepts the aircraft with a column at most the
+ * wanted one. Every smaller number in range passes too, and no larger one does: an upper limit for the operator's manual.
+ *
+ * The column is that of nb_sheet's glide model, from the high area; the high impact angle model has no part in it. Where the area has
+ * no slide, it depends on neither speed nor mass, and every column answers the greatest number in range. */
+typedef struct {
+    uint8_t refusal;
+    uint32_t speed; /* cm/s, 0 to 40,000; 0 where refused, so look at the refusal first */
+} nb_greatest_speed_t;
+
+typedef struct {
+    uint8_t refusal;
+    uint32_t mass; /* g, 50 to 25,000,000; 0 where refused */
+} nb_greatest_mass_t;
+
+/* The greatest speed of an aircraft: its maximum characteristic dimension in mm (50 to 100,000), maximum take-off mass in g (50 to
+ * 25,000,000), and the wanted column (1 to 5).
+ * On the way a square root is taken of a floating-point number, and held to its square in whole numbers: the processor must be in the
+ * floating-point mode that nb_descent asks for.
+ * Refusals: 1, 2 as nb_sheet; 20; 21 exactly where no speed in range passes, which is where 0 doesn't. */
+nb_greatest_speed_t nb_greatest_speed(uint32_t dimension, uint32_t mass, uint8_t column);
+
+/* The greatest mass of an aircraft: its maximum characteristic dimension in mm (50 to 100,000), maximum cruise speed in cm/s (0 to
+ * 40,000), and the wanted column (1 to 5).
+ * Refusals: 1, 3 as nb_sheet; 20; 21 exactly where no mass in range passes, which is where 50 g don't. */
+nb_greatest_mass_t nb_greatest_mass(uint32_t dimension, uint32_t speed, uint8_t column);
 
 /* ---- The footprint on the map ---- */
 
@@ -339,6 +373,8 @@ NB_ASSERT(sizeof(nb_sheet_answer_t) == 112, sheet_answer_size);
 NB_ASSERT(sizeof(nb_high_angle_t) == 64, high_angle_size);
 NB_ASSERT(sizeof(nb_fall_t) == 24, fall_size);
 NB_ASSERT(sizeof(nb_descent_t) == 32, descent_size);
+NB_ASSERT(sizeof(nb_greatest_speed_t) == 8, greatest_speed_size);
+NB_ASSERT(sizeof(nb_greatest_mass_t) == 8, greatest_mass_size);
 NB_ASSERT(sizeof(nb_footprint_t) == 24, footprint_size);
 NB_ASSERT(sizeof(nb_intrinsic_class_t) == 2, intrinsic_class_size);
 NB_ASSERT(sizeof(nb_final_class_t) == 2, final_class_size);

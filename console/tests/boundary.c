@@ -126,6 +126,8 @@ static void take(void *into, size_t length) {
     NUMBER(refusal) NUMBER(column) NUMBER(flag) NUMBER(frontal_area) PART(bracket, joules) PART(bracket, factor) PART(bracket, area)
 #define FALL(NUMBER, PART) NUMBER(horizontal) NUMBER(downward) NUMBER(fallen)
 #define DESCENT(NUMBER, PART) NUMBER(refusal) NUMBER(above_60) NUMBER(steps) PART(fall, end)
+#define GREATEST_SPEED(NUMBER, PART) NUMBER(refusal) NUMBER(speed)
+#define GREATEST_MASS(NUMBER, PART) NUMBER(refusal) NUMBER(mass)
 #define FOOTPRINT(NUMBER, PART) NUMBER(refusal) NUMBER(row) NUMBER(place) NUMBER(people) NUMBER(cells)
 #define INTRINSIC_CLASS(NUMBER, PART) NUMBER(refusal) NUMBER(class_number)
 #define FINAL_CLASS(NUMBER, PART) NUMBER(refusal) NUMBER(class_number)
@@ -169,6 +171,8 @@ STRUCT(sheet_answer, SHEET_ANSWER)
 STRUCT(high_angle, HIGH_ANGLE)
 STRUCT(fall, FALL)
 STRUCT(descent, DESCENT)
+STRUCT(greatest_speed, GREATEST_SPEED)
+STRUCT(greatest_mass, GREATEST_MASS)
 STRUCT(footprint, FOOTPRINT)
 STRUCT(intrinsic_class, INTRINSIC_CLASS)
 STRUCT(final_class, FINAL_CLASS)
@@ -319,6 +323,26 @@ static void call_descent(void) {
     same_descent(&got, &wanted);
 }
 
+static void call_greatest_speed(void) {
+    TAKE(uint32_t, dimension);
+    TAKE(uint32_t, mass);
+    TAKE(uint8_t, column);
+    nb_greatest_speed_t wanted = take_greatest_speed();
+    starts("nb_greatest_speed", wanted.refusal);
+    nb_greatest_speed_t got = nb_greatest_speed(dimension, mass, column);
+    same_greatest_speed(&got, &wanted);
+}
+
+static void call_greatest_mass(void) {
+    TAKE(uint32_t, dimension);
+    TAKE(uint32_t, speed);
+    TAKE(uint8_t, column);
+    nb_greatest_mass_t wanted = take_greatest_mass();
+    starts("nb_greatest_mass", wanted.refusal);
+    nb_greatest_mass_t got = nb_greatest_mass(dimension, speed, column);
+    same_greatest_mass(&got, &wanted);
+}
+
 static void call_intrinsic_class(void) {
     TAKE(uint8_t, column);
     TAKE(uint8_t, row);
@@ -373,6 +397,8 @@ static void make_all_calls(int heap) {
         case 'S': call_sheet(); break;
         case 'H': call_high_angle(); break;
         case 'D': call_descent(); break;
+        case 'G': call_greatest_speed(); break;
+        case 'J': call_greatest_mass(); break;
         case 'I': call_intrinsic_class(); break;
         case 'K': call_final_class(); break;
         case 'W': call_frame(heap); break;

@@ -16,6 +16,8 @@ comes what the checker says:
   S  sheet: the answer
   H  high impact angle area: the answer
   D  descent: the answer
+  G  greatest speed for a column: the answer
+  J  greatest mass for a column: the answer
   I  intrinsic class: the answer
   K  final class: the answer
   W  frame: u8 answer, u8 bytes written, the bytes
@@ -38,13 +40,14 @@ import ground_risk as g
 import high_angle_aircraft
 import high_angle_points
 import random_cases as r
+import trade_off_aircraft
 from library import F64, LENT, OPERATIONS, U64, flat
 
 # Every third of the random cases: some of each kind.
 CASES = range(0, r.CASES, 3)
 
 LETTERS = {"case": b"C", "reading": b"L", "footprint": b"F", "assessment": b"A", "sheet": b"S", "high angle": b"H",
-           "descent": b"D", "intrinsic class": b"I", "final class": b"K", "frame": b"W"}
+           "descent": b"D", "greatest speed": b"G", "greatest mass": b"J", "intrinsic class": b"I", "final class": b"K", "frame": b"W"}
 
 
 def packed(kind, numbers):
@@ -110,6 +113,8 @@ def random_case(number):
             + answered("sheet", fields.dimension, fields.mass, fields.speed)
             + answered("high angle", fields.dimension, fields.mass, fields.speed)
             + answered("descent", fields.dimension, fields.mass, fields.speed, 1 + number % 40, 20)
+            + answered("greatest speed", fields.dimension, fields.mass, number % 7)
+            + answered("greatest mass", fields.dimension, fields.speed, number % 7)
             + map_record(case.lent)
             + answered("footprint", *case.lent, fields.cell_area)
             + assessment_record(fields, case.lent))
@@ -225,11 +230,35 @@ def falls():
     yield from (draw(source) for draw in descent_aircraft.DRAWS for _ in range(150))
 
 
+WANTED = (0, 1, 2, 3, 4, 5, 6, 255)
+
+
+def trade_offs():
+    """The greatest speed and the greatest mass for every wanted column: at every end of every range by one, one number after the other
+    and inside and outside all ranges together; at the size pairs' dimensions and the largest of each column, by one; at the aircraft
+    where one gram or one cm/s decides, by one; and drawn ones of every kind."""
+    largest, source = 2 ** 32 - 1, random.Random(5)
+    dimensions = by_one((0, largest, *g.DIMENSION_RANGE, *(w for w, _ in g.SIZE_PAIRS), *trade_off_aircraft.LARGEST.values()))
+    masses, speeds = (by_one((0, largest, *limits)) for limits in (g.MASS_RANGE, g.SPEED_RANGE))
+    asked = [("greatest speed", *given) for given in product(dimensions, masses, WANTED)]
+    asked += [("greatest mass", *given) for given in product(dimensions, speeds, WANTED)]
+    close = [row[1:] for row in trade_off_aircraft.LAST + trade_off_aircraft.NEXT]
+    close += [*trade_off_aircraft.NO_SLIDE, trade_off_aircraft.SLOWEST]
+    close += [(column, w, g.MASS_RANGE[0], v) for column, w, v in trade_off_aircraft.FASTEST]
+    for column, w, m, v in close:
+        asked += [("greatest speed", w, mass, column) for mass in by_one((m,))]
+        asked += [("greatest mass", w, speed, column) for speed in by_one((v,))]
+    for draw in trade_off_aircraft.DRAWS:
+        for w, m, v, column in (draw(source) for _ in range(150)):
+            asked += [("greatest speed", w, m, column), ("greatest mass", w, v, column)]
+    return b"".join(answered(*given) for given in asked)
+
+
 def classes():
     out = b""
     words = [sum(digits // 5 ** place % 5 * 16 ** place for place in range(4)) for digits in range(5 ** 4)]
     words += [0x000f, 0x00f0, 0x0f00, 0xf000, 0xffff]
-    for column in (0, 1, 2, 3, 4, 5, 6, 255):
+    for column in WANTED:
         for row in (0, 1, 2, 3, 4, 5, 6, 7, 8, 255):
             for controlled in (0, 1, 2, 255):
                 out += answered("intrinsic class", column, row, controlled)
@@ -259,7 +288,7 @@ def frames():
     return out
 
 
-PARTS = (accepted_lengths, damaged_lengths, refused_lengths, map_lengths, sizes, multirotors, descents, classes, frames)
+PARTS = (accepted_lengths, damaged_lengths, refused_lengths, map_lengths, sizes, multirotors, descents, trade_offs, classes, frames)
 
 
 def run_part(number):

@@ -1,5 +1,5 @@
-/* A whole case, a high angle, and a descent, that do one thing wrong, put before the library's own by the linker (--wrap), to show that
- * boundary.c notices it. The environment's FAULT says which. */
+/* A whole case, a high angle, a descent, a greatest speed, and a greatest mass, that do one thing wrong, put before the library's own
+ * by the linker (--wrap), to show that boundary.c notices it. The environment's FAULT says which. */
 #include <nuggetbay.h>
 #include <stdlib.h>
 #include <string.h>
@@ -10,6 +10,10 @@ uint8_t __real_nb_case(const uint8_t *text, size_t text_len, uint32_t *counts, s
 nb_high_angle_t __real_nb_high_angle(uint32_t dimension, uint32_t mass, uint32_t speed);
 
 nb_descent_t __real_nb_descent(uint32_t dimension, uint32_t mass, uint32_t speed, uint32_t height, uint32_t budget);
+
+nb_greatest_speed_t __real_nb_greatest_speed(uint32_t dimension, uint32_t mass, uint8_t column);
+
+nb_greatest_mass_t __real_nb_greatest_mass(uint32_t dimension, uint32_t speed, uint8_t column);
 
 static volatile uint8_t seen;
 
@@ -69,6 +73,37 @@ nb_descent_t __wrap_nb_descent(uint32_t dimension, uint32_t mass, uint32_t speed
     case 'l': if (answer.refusal == NB_NEGATIVE_SPEED && budget == 1) answer.refusal = NB_BUDGET_SPENT; break; /* the later refusal */
     case 'e': if (answer.refusal != 0) answer.end.downward = -0.0; break;                         /* a sign under a refusal */
     case 'k': if (answer.refusal == NB_BUDGET_SPENT) answer.steps = budget; break;                /* a number under a refusal */
+    default: break;
+    }
+    return answer;
+}
+
+static int is_column(uint8_t column) { return column >= 1 && column <= 5; }
+
+nb_greatest_speed_t __wrap_nb_greatest_speed(uint32_t dimension, uint32_t mass, uint8_t column) {
+    char which = fault();
+    nb_greatest_speed_t answer = __real_nb_greatest_speed(dimension, mass, column);
+    switch (which) {
+    case 'h': if (answer.refusal == 0 && answer.speed > 0) answer.speed--; break;                /* one too small */
+    case 'i': if (answer.refusal == 0) answer.speed++; break;                                    /* one too large */
+    case 'q': if (answer.refusal == NB_NONE_FOR_COLUMN) answer.speed = 1; break;                 /* a number under a refusal */
+    case 'w': if (answer.refusal != 0 && !is_column(column)) answer.refusal = NB_WANTED_COLUMN; break; /* 20 before 1 and 2 */
+    case 'x': if (answer.refusal == NB_WANTED_COLUMN) answer.refusal = NB_NONE_FOR_COLUMN; break; /* another refusal */
+    default: break;
+    }
+    return answer;
+}
+
+/* The same of a mass, by capital letters. */
+nb_greatest_mass_t __wrap_nb_greatest_mass(uint32_t dimension, uint32_t speed, uint8_t column) {
+    char which = fault();
+    nb_greatest_mass_t answer = __real_nb_greatest_mass(dimension, speed, column);
+    switch (which) {
+    case 'H': if (answer.refusal == 0) answer.mass--; break;
+    case 'I': if (answer.refusal == 0) answer.mass++; break;
+    case 'Q': if (answer.refusal == NB_NONE_FOR_COLUMN) answer.mass = 1; break;
+    case 'W': if (answer.refusal != 0 && !is_column(column)) answer.refusal = NB_WANTED_COLUMN; break;
+    case 'X': if (answer.refusal == NB_WANTED_COLUMN) answer.refusal = NB_NONE_FOR_COLUMN; break;
     default: break;
     }
     return answer;

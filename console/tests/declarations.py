@@ -219,7 +219,7 @@ def tables_of_rust(layout, refusal, calls):
 # Numbers that a refusal's message must say.
 SAID = {1: g.DIMENSION_RANGE, 2: g.MASS_RANGE, 3: g.SPEED_RANGE, 4: g.AREA_LIMITS[-1:], 5: (*g.LENT_LENGTHS,), 6: g.CELL_AREA_RANGE,
         7: (g.LARGEST_COUNT,), 13: (g.TEXT_LENGTH,), 15: (g.FRAME_LENGTH,), 16: g.FRONTAL_RANGE, 17: (*g.HEIGHT_RANGE, *g.BUDGET_RANGE),
-        18: g.BUDGET_RANGE[1:]}
+        18: g.BUDGET_RANGE[1:], 20: (1, len(g.AREA_LIMITS))}
 
 
 # ---------------------------------------------------------------------------

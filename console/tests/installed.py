@@ -42,6 +42,18 @@ DESCENTS = ((1_100, 15_000, 2_500, 5_740), (1_100, 15_000, 2_500, 5_739), (1_100
             (49, 49, 40_001, 0, 0), (50, 49, 40_001, 0, 0), (50, 50, 40_001, 0, 0), (999, 50, 0, 0, 0), (40_001, 50, 0, 1),
             (1_000, 50, 10_205, 0), (1_000, 50, 10_205, 50_001), (1_000, 50, 10_205, 1, 0), (1_000, 50, 10_205, 1, 20_001),
             (2 ** 32 - 1,) * 5)
+# Of the greatest speed and the greatest mass: inside the range and at its ends, with a flag, every refusal and the order of them.
+TRADE_OFFS = (("speed", 3_000, 25_000, 2), ("speed", 1_500, 10_000, 1), ("speed", 100_000, 50, 5), ("speed", 999, 50, 1),
+              ("speed", 3_000, 25_000, 5), ("speed", 2_909, 64_216, 5), ("speed", 3_000, 25_000, 1), ("speed", 100_000, 50, 4),
+              ("speed", 49, 49, 0), ("speed", 50, 49, 0), ("speed", 100_000, 25_000_001, 6), ("speed", 50, 50, 0),
+              ("speed", 3_000, 25_000, 6), ("speed", *(2 ** 32 - 1,) * 3),
+              ("mass", 3_000, 5_000, 2), ("mass", 1_500, 3_000, 1), ("mass", 100_000, 0, 5), ("mass", 999, 40_000, 1),
+              ("mass", 3_000, 5_000, 3), ("mass", 1_010, 1_226, 2), ("mass", 3_000, 5_000, 1), ("mass", 100_000, 40_000, 4),
+              ("mass", 49, 40_001, 0), ("mass", 50, 40_001, 0), ("mass", 50, 40_000, 0), ("mass", 3_000, 5_000, 6),
+              ("mass", *(2 ** 32 - 1,) * 3))
+# Wrong columns, most of them right in their last 8 bits.
+WRONG_COLUMNS = (0, 255, 256, 258, 65_538, 2 ** 32 - 254)
+TABLES_FOLLOW = "<!-- what follows is made: make trade-off-tables -->"
 NOT_NUMBERS = ("", "x", "-1", "+1", " 1", "1 ", "1.0", "1e3", "0x10", str(2 ** 32), str(2 ** 64 + 1))
 
 
@@ -75,6 +87,18 @@ def descent_words(dimension, mass, speed, height, budget=g.BUDGET_RANGE[1]):
             f"speed at the ground: {a.end.horizontal:.3f} m/s horizontally, {a.end.downward:.3f} m/s downward\n"
             f"impact angle: {angle} 60 degrees\n"
             f"from this operating height {model}\n")
+
+
+def trade_off_words(sought, dimension, given, column):
+    a = {"speed": g.greatest_speed, "mass": g.greatest_mass}[sought](dimension, given, column)
+    if a.refusal != 0:
+        return f"refusal {a.refusal}: {messages()[a.refusal]}\n"
+    greatest, unit, sheet = ((a.speed, "cm/s", g.sheet(dimension, given, a.speed)) if sought == "speed" else
+                             (a.mass, "g", g.sheet(dimension, a.mass, given)))
+    flagged = ", the exact one may be the column before" if sheet.flag else ""
+    return (f"greatest {sought} for column {column}: {greatest:,} {unit}\n"
+            f"critical area at this {sought}: {sheet.area.low:,} to {sheet.area.high:,} square centimetres\n"
+            f"column at this {sought}: {sheet.column}{flagged}\n")
 
 
 def done(*command, **settings):
@@ -168,6 +192,17 @@ class InstalledTest(unittest.TestCase):
             self.assertIn(words, said)
         self.takes_no_other_arguments(program, 4, DESCENTS[2])
 
+    def says_the_trade_offs(self, program):
+        self.says_the_words(program, TRADE_OFFS, trade_off_words)
+        said = "".join(trade_off_words(*asked) for asked in TRADE_OFFS)
+        for number in (1, 2, 3, 20, 21):
+            self.assertIn(f"refusal {number}:", said)
+        for sought in ("speed", "mass"):
+            self.assertRegex(said, f"column at this {sought}: [25], the exact one may be")
+            self.says_the_words(program, [(sought, 3_000, 5_000, column) for column in WRONG_COLUMNS], trade_off_words)
+            self.says_the_words(program, [(sought, 49, 5_000, column) for column in WRONG_COLUMNS], trade_off_words)
+            self.takes_no_other_arguments(program, 4, (sought, 3_000, 5_000, 2))
+
     def fails_on_a_full_disk(self, program, *arguments):
         with open("/dev/full", "w") as full:
             ran = subprocess.run([program, *arguments], stdout=full, stderr=subprocess.PIPE, text=True, env=self.environment)
@@ -205,24 +240,36 @@ class InstalledTest(unittest.TestCase):
             self.says_the_examples(self.built("example", ROOT / "console/examples/case.c", CC, "-std=c99", static=static))
             self.says_the_high_angles(self.built("high_angle", ROOT / "console/examples/high_angle.c", CC, "-std=c99", static=static))
             self.says_the_descents(self.built("descent", ROOT / "console/examples/descent.c", CC, "-std=c99", static=static))
+            self.says_the_trade_offs(self.built("trade_off", ROOT / "console/examples/trade_off.c", CC, "-std=c99", static=static))
         self.says_the_examples(self.crate("example_rust", (ROOT / "console/rust/examples/case.rs").read_text()))
         self.says_the_high_angles(self.crate("high_angle_rust", (ROOT / "console/rust/examples/high_angle.rs").read_text()))
         self.says_the_descents(self.crate("descent_rust", (ROOT / "console/rust/examples/descent.rs").read_text()))
+        self.says_the_trade_offs(self.crate("trade_off_rust", (ROOT / "console/rust/examples/trade_off.rs").read_text()))
+
+    def test_the_trade_off_tables(self):
+        """The program prints what stands in the page after the line that says so, to the byte."""
+        tables = (ROOT / "docs/TRADE_OFFS.md").read_bytes().split(f"\n{TABLES_FOLLOW}\n\n".encode())
+        self.assertEqual(len(tables), 2)
+        program = self.built("trade_off_tables", ROOT / "console/examples/trade_off_tables.c", CC, "-std=c99", static=True)
+        ran = subprocess.run([program], stdout=subprocess.PIPE)
+        self.assertEqual((ran.returncode, ran.stdout), (0, tables[1]))
+        self.fails_on_a_full_disk(program)
 
     def test_the_examples_of_readme(self):
         """The program of each command, which make makes, prints what README shows below it."""
         text = (ROOT / "README.md").read_text()
-        for name in ("high_angle", "descent"):
-            program, numbers, shown = re.search(
-                rf"^    make \S+{name}-in-words\n    (\S+{name}-in-words) ([\d ]+)\n\n((?:    .*\n)+)", text, re.M).groups()
+        for name in ("high_angle", "descent", "trade_off"):
+            program, asked, shown = re.search(
+                rf"^    make \S+{name}-in-words\n    (\S+{name}-in-words) (\w[\w ]*)\n\n((?:    .*\n)+)", text, re.M).groups()
             self.assertEqual(make(program).returncode, 0)
-            ran = self.run_program(ROOT / program, *numbers.split())
+            ran = self.run_program(ROOT / program, *asked.split())
             self.assertEqual((ran.returncode, ran.stdout), (0, shown.replace("    ", "")))
 
-    def test_version_messages_a_descent_and_nothing_lent(self):
+    def test_version_messages_a_descent_a_trade_off_and_nothing_lent(self):
         refusal, above_60, steps, end = g.descent(1_100, 15_000, 2_500, 5_740, g.BUDGET_RANGE[1])
         descent = " ".join(format(number, ".17g") for number in (refusal, above_60, steps, *end))
-        wanted = [f"{NUMBER} {NUMBER}", *messages(), descent, "5", "5", "13", "15"]
+        trade_off = " ".join(map(str, (*g.greatest_speed(3_000, 25_000, 2), *g.greatest_mass(3_000, 5_000, 2))))
+        wanted = [f"{NUMBER} {NUMBER}", *messages(), descent, trade_off, "5", "5", "13", "15"]
         for compiler in ([CC, "-std=c99"], [CXX, "-x", "c++", "-std=c++98", "-Wno-long-long"], [CXX, "-x", "c++", "-std=c++17"]):
             program = self.built("consumer", ROOT / "console/tests/consumer.c", *compiler)
             self.assertEqual(self.run_program(program).stdout.splitlines(), wanted)

@@ -74,6 +74,10 @@ int main(void) {
     /* nearly all steps of the largest budget */
     USED(nb_descent, WORD(&descent), 3000, 50, 500, 28250, NB_BUDGET_MOST);
     if (descent.refusal != NB_ACCEPTED || descent.steps < NB_BUDGET_MOST - 100) return 1;
+    /* the answers of these come in a register */
+    USED(nb_greatest_speed, 3000, 25000, 2);
+    USED(nb_greatest_mass, 3000, 5000, 2);
+    if (nb_greatest_speed(3000, 25000, 2).refusal != NB_ACCEPTED || nb_greatest_mass(3000, 5000, 2).refusal != NB_ACCEPTED) return 1;
     USED(nb_intrinsic_class, 3, 4, 0);
     USED(nb_final_class, 3, 6, 0x2212);
     return 0;

@@ -1,5 +1,6 @@
 """The pages' numbers: README's are the checker's (the fields of a case, the mitigation digits, the class table, the size columns, the
-refusals, the frame that it explains, the high impact angle model, the descent), TRUST's are the header's and the repository's."""
+refusals, the frame that it explains, the high impact angle model, the descent, the trade-off), and so are the ranges of the greatest
+speed and mass in the header and the Rust package, and those of TRADE_OFFS; TRUST's are the header's and the repository's."""
 
 import re
 import sys
@@ -15,8 +16,8 @@ import example_cases          # noqa: E402
 import ground_risk as g       # noqa: E402
 import stack                  # noqa: E402
 
-README, TRUST, HEADER, ANSWERS, CALLS = ((ROOT / page).read_text() for page in (
-    "README.md", "docs/TRUST.md", "console/include/nuggetbay.h", "console/rust/src/answers.rs", "console/rust/src/lib.rs"))
+README, TRUST, TRADE_OFFS, HEADER, ANSWERS, CALLS = ((ROOT / page).read_text() for page in (
+    "README.md", "docs/TRUST.md", "docs/TRADE_OFFS.md", "console/include/nuggetbay.h", "console/rust/src/answers.rs", "console/rust/src/lib.rs"))
 RANGES = {"dimension": g.DIMENSION_RANGE, "mass": g.MASS_RANGE, "speed": g.SPEED_RANGE, "cell_area": g.CELL_AREA_RANGE}
 CREDITS = {"M1(A)": g.M1A_CREDITS, "M1(B)": g.M1B_CREDITS, "M1(C)": g.M1C_CREDITS, "M2": g.M2_CREDITS}
 
@@ -171,6 +172,27 @@ class ReadmeTest(unittest.TestCase):
         refused = {v for v in range(g.SPEED_RANGE[1] + 1) if g.descent(dimension, mass, v, *g.HEIGHT_RANGE[:1], 1).refusal == 19}
         self.assertEqual(refused, set(range(speed, g.SPEED_RANGE[1] + 1)))
 
+    def test_the_ranges_of_the_greatest_speed_and_mass(self):
+        header = HEADER.split("/* ---- The greatest speed and the greatest mass for a column ---- */")[1].split("/* ----")[0]
+        calls = CALLS.split("/// The greatest speed in cm/s")[1].split("pub fn greatest_mass")[0]
+        dimensions, masses, speeds = ("{:,} to {:,}".format(*limits) for limits in (g.DIMENSION_RANGE, g.MASS_RANGE, g.SPEED_RANGE))
+        for said in (f"in mm ({dimensions})", f"in g ({masses})", f"in cm/s ({speeds})", f"g, {masses};", f"cm/s, {speeds};"):
+            self.assertIn(said, joined(header))
+        for said in (f"({speeds}) with which", f"in g ({masses}) with which", f"the answer is {g.SPEED_RANGE[1]:,},",
+                     f"the answer is {g.MASS_RANGE[1]:,},"):
+            self.assertIn(said, joined("/// " + calls))
+        for page in (header, calls):
+            self.assertEqual(joined(page).count(f"(1 to {len(g.AREA_LIMITS)})"), 2)
+            for least in (f"{g.SPEED_RANGE[0]} doesn't", f"{g.MASS_RANGE[0]} g don't"):
+                self.assertIn(f"in range passes, which is where {least}", joined(page))
+
+    def test_the_trade_off_that_is_shown(self):
+        dimension, speed, column, metres, mass = numbers_in(re.search(r"With `mass (.*? [\d,]+ g)\.", README)[1])
+        self.assertEqual((g.greatest_mass(dimension, speed, column), speed), ((0, mass), 100 * metres))
+        for least in (f"speed {g.SPEED_RANGE[0]}", f"{g.MASS_RANGE[0]} g"):
+            self.assertIn(f"even {least},", README)
+        self.assertIn("the greatest speed from {:,} to {:,} cm/s".format(*g.SPEED_RANGE), README)
+
     def test_the_shared_library(self):
         self.assertIn(f"`libnuggetbay.so.{declarations.version_of(HEADER).split('.')[0]}`", README)
 
@@ -180,6 +202,24 @@ class ReadmeTest(unittest.TestCase):
     def test_what_is_pointed_at_is_there(self):
         for path in re.findall(r"\]\(([^)#]+)\)", README) + re.findall(r"^    bash (\S+)", README, re.M):
             self.assertTrue((ROOT / path).exists(), path)
+
+
+class TradeOffsTest(unittest.TestCase):
+    """The words above the tables; the tables are held to the program by console/tests/installed.py, and to the checker by its own tests."""
+
+    def test_the_ranges(self):
+        self.assertIn("({:,} to {:,} cm/s, {:,} to {:,} g)".format(*g.SPEED_RANGE, *g.MASS_RANGE), TRADE_OFFS)
+
+    def test_the_aircraft_beside_annex_f(self):
+        column, dimension, speed = re.search(r"T4 turns column (\d)'s (\d+) m and (\d+) m/s into", TRADE_OFFS).groups()
+        self.assertEqual((int(dimension) * 1000, int(speed) * 100), g.SIZE_PAIRS[int(column) - 1])
+        for size, faster, turned in ((0.5, 1.4, "T4 turns .*? into"), (1.7, 0.75, "T6 turns .*? into")):
+            metres, metres_a_second = re.search(rf"{turned} ([\d.]+) m and ([\d.]+) m/s", TRADE_OFFS).groups()
+            self.assertAlmostEqual(float(metres), size * int(dimension))
+            self.assertAlmostEqual(float(metres_a_second), faster * int(speed))
+            width, mass, greatest = numbers_in(re.search(
+                rf"{turned} {metres} m and {metres_a_second} m/s.*?; (.*?) cm/s", TRADE_OFFS)[1].replace("column 3", "it"))
+            self.assertEqual((width, g.greatest_speed(width, mass, int(column))), (float(metres) * 1000, (0, greatest)))
 
 
 class TrustTest(unittest.TestCase):

@@ -1,7 +1,7 @@
 //! All contestants answer alike, and leave alike what is lent, on good and on damaged inputs.
 
-use crate::ffi::{Descent, Footprint, HighAngle, Reading, Sheet, SheetAnswer};
-use crate::inputs::{self, DescentInput, Map, Random};
+use crate::ffi::{Descent, Footprint, GreatestMass, GreatestSpeed, HighAngle, Reading, Sheet, SheetAnswer};
+use crate::inputs::{self, DescentInput, Map, Random, TradeOff};
 use crate::{library, obvious, tuned};
 use nuggetbay::layout::{FRAME_LENGTH, LINE_1_LENGTH, MAP_CELLS, MAP_COLUMNS, MAP_ROWS};
 use nuggetbay::Aircraft;
@@ -132,6 +132,50 @@ pub fn descents(random: &mut Random, tally: &mut Tally) {
         tally.inputs += 1;
         tally.refused += usize::from(answer.refusal != 0);
     }
+}
+
+/// `edge` is a given number at which the answer changes, where there is one.
+fn damaged_trade_off(random: &mut Random, kind: usize, mut asked: TradeOff, edge: Option<u32>) -> TradeOff {
+    let anything = (random.next() >> 32) as u32 >> random.below(32);
+    match kind {
+        0 => asked.dimension = anything,
+        1 => asked.given = anything,
+        2 => asked.column = anything as u8,
+        3 => asked.dimension = random.one_of(&[49, 50, 100_000, 100_001]),
+        4 => asked.given = random.one_of(&[0, 49, 50, 40_000, 40_001, 25_000_000, 25_000_001]),
+        5 => asked.column = random.between(1, 5) as u8,
+        // where the area formula changes
+        6 => asked.dimension = random.one_of(&[999, 1_000, 1_001, 7_999, 8_000, 8_001]),
+        7 => asked.dimension = random.between(50, 100_000),
+        8..=12 => asked.given = (edge.unwrap_or(asked.given) + random.below(3) as u32).saturating_sub(1),
+        _ => {}
+    }
+    asked
+}
+
+/// One of the two operations, at inputs near the answers of the other among them, where its own answer changes.
+macro_rules! agree_on_trade_offs {
+    ($random:ident, $tally:ident, $greatest:ident, $answer:ident { $number:ident }, $draw:ident, $other:ident of $least:literal to $most:literal) => {
+        for i in 0..200_000 {
+            let asked = inputs::$draw($random);
+            let edge = obvious::$other(asked.dimension, $random.between($least, $most), asked.column).ok();
+            let TradeOff { dimension, given, column } = damaged_trade_off($random, i % 20, asked, edge);
+            let answer = library::$greatest(dimension, given, column);
+            let obvious = match obvious::$greatest(dimension, given, column) {
+                Ok($number) => $answer { refusal: 0, $number },
+                Err(refusal) => $answer { refusal, $number: 0 },
+            };
+            assert_eq!(answer, obvious, "{dimension} {given} {column}");
+            assert_eq!(answer, tuned::$greatest(dimension, given, column), "{dimension} {given} {column}");
+            $tally.inputs += 1;
+            $tally.refused += usize::from(answer.refusal != 0);
+        }
+    };
+}
+
+pub fn trade_offs(random: &mut Random, tally: &mut Tally) {
+    agree_on_trade_offs!(random, tally, greatest_speed, GreatestSpeed { speed }, wanted_speed, greatest_mass of 0 to 40_000);
+    agree_on_trade_offs!(random, tally, greatest_mass, GreatestMass { mass }, wanted_mass, greatest_speed of 50 to 25_000_000);
 }
 
 fn footprint_answer(result: Result<Footprint, u8>) -> Footprint {

@@ -90,6 +90,48 @@ pub fn any_descent(random: &mut Random) -> DescentInput {
     DescentInput { aircraft, height: random.between(height.0, height.1), budget: random.between(budget.0, budget.1) }
 }
 
+/// What a greatest speed or a greatest mass is asked for: `given` is the mass or the speed.
+#[derive(Clone, Copy, Debug, PartialEq, Eq)]
+pub struct TradeOff {
+    pub dimension: u32,
+    pub given: u32,
+    pub column: u8,
+}
+
+/// Nearly always a dimension that has the column at some speeds of the range and not at others, so that most answers lie inside it. One
+/// of sixteen has no slide, and one is any.
+fn dimension_and_column(random: &mut Random) -> (u32, u8) {
+    let of_columns =
+        [(1, 1_001, 1_800), (2, 1_001, 8_000), (3, 1_001, 25_000), (4, 3_001, 85_000), (5, 21_000, 100_000)];
+    let (column, least, most) = match random.below(16) {
+        0 => (random.between(1, 5) as u8, 50, 1_000),
+        1 => (random.between(1, 5) as u8, 1_001, 100_000),
+        _ => random.one_of(&of_columns),
+    };
+    (random.between(least, most), column)
+}
+
+/// Each doubling as often as the next.
+fn any_mass(random: &mut Random) -> u32 {
+    let doubled = random.below(19);
+    random.between(50 << doubled, (100 << doubled).min(25_000_000))
+}
+
+pub fn wanted_speed(random: &mut Random) -> TradeOff {
+    let (dimension, column) = dimension_and_column(random);
+    TradeOff { dimension, given: any_mass(random), column }
+}
+
+/// With the greatest speed of some mass, or the next one, so that the greatest mass is as various as that.
+pub fn wanted_mass(random: &mut Random) -> TradeOff {
+    let (dimension, column) = dimension_and_column(random);
+    let given = match obvious::greatest_speed(dimension, any_mass(random), column) {
+        Ok(speed) => (speed + random.below(2) as u32).min(40_000),
+        Err(_) => random.between(0, 40_000),
+    };
+    TradeOff { dimension, given, column }
+}
+
 /// Of column 1, so that every row of the class table has a class.
 pub fn small_aircraft(random: &mut Random) -> Aircraft {
     Aircraft {

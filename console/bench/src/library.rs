@@ -1,6 +1,6 @@
 //! The library, called as its header declares it.
 
-use crate::ffi::{self, Descent, Footprint, HighAngle, Reading, SheetAnswer};
+use crate::ffi::{self, Descent, Footprint, GreatestMass, GreatestSpeed, HighAngle, Reading, SheetAnswer};
 
 pub fn sheet(dimension: u32, mass: u32, speed: u32) -> SheetAnswer {
     // SAFETY: numbers only.
@@ -15,6 +15,16 @@ pub fn high_angle(dimension: u32, mass: u32, speed: u32) -> HighAngle {
 pub fn descent(dimension: u32, mass: u32, speed: u32, height: u32, budget: u32) -> Descent {
     // SAFETY: numbers only.
     unsafe { ffi::nb_descent(dimension, mass, speed, height, budget) }
+}
+
+pub fn greatest_speed(dimension: u32, mass: u32, column: u8) -> GreatestSpeed {
+    // SAFETY: numbers only.
+    unsafe { ffi::nb_greatest_speed(dimension, mass, column) }
+}
+
+pub fn greatest_mass(dimension: u32, speed: u32, column: u8) -> GreatestMass {
+    // SAFETY: numbers only.
+    unsafe { ffi::nb_greatest_mass(dimension, speed, column) }
 }
 
 pub fn footprint(counts: &[u32], marks: &[u64], cell_area: u32) -> Footprint {

@@ -13,7 +13,7 @@ mod obvious;
 mod tuned;
 
 use barrier::black_box;
-use inputs::{DescentInput, Map, Random};
+use inputs::{DescentInput, Map, Random, TradeOff};
 use nuggetbay::layout::{FRAME_LENGTH, MAP_CELLS, MAP_ROWS};
 use nuggetbay::Aircraft;
 use std::cell::RefCell;
@@ -119,6 +119,31 @@ fn descent_contest(name: &'static str, descents: Vec<DescentInput>, refusal: u8)
     Contest { name, inputs: steps as usize, runs, tuned_at_least: 1.0, obvious_at_least: 0.0 }
 }
 
+/// The contest of one of the two operations; at least three quarters of its answers are inside the range.
+macro_rules! trade_off_contest {
+    ($name:literal, $greatest:ident, $number:ident in $inside:expr, $asked:expr) => {{
+        let asked = Rc::new($asked);
+        let inside = |a: &&TradeOff| {
+            let answer = library::$greatest(a.dimension, a.given, a.column);
+            answer.refusal == 0 && $inside.contains(&answer.$number)
+        };
+        assert!(4 * asked.iter().filter(inside).count() >= 3 * asked.len());
+        macro_rules! run {
+            ($answer:path) => {{
+                let asked = Rc::clone(&asked);
+                Box::new(move |_| {
+                    for a in asked.iter() {
+                        black_box(&$answer(black_box(a.dimension), black_box(a.given), black_box(a.column)));
+                    }
+                })
+            }};
+        }
+        let runs: [Box<dyn FnMut(usize)>; 3] =
+            [run!(library::$greatest), run!(tuned::$greatest), run!(obvious::$greatest)];
+        Contest { name: $name, inputs: asked.len(), runs, tuned_at_least: 1.0, obvious_at_least: 0.0 }
+    }};
+}
+
 fn footprint_contest(name: &'static str, maps: Vec<Map>) -> Contest {
     let maps = Rc::new(maps);
     macro_rules! run {
@@ -198,6 +223,18 @@ fn damaged(random: &mut Random, damage: fn(&mut Random, &mut Map, &mut u16), byt
     Rc::new(texts)
 }
 
+/// As many inputs as there are aircraft, no two alike.
+fn different<T: PartialEq>(random: &mut Random, draw: fn(&mut Random) -> T) -> Vec<T> {
+    let mut drawn = Vec::new();
+    while drawn.len() < inputs::AIRCRAFT {
+        let one = draw(random);
+        if !drawn.contains(&one) {
+            drawn.push(one);
+        }
+    }
+    drawn
+}
+
 /// Those whose name begins with BENCH_ONLY, where that is set.
 fn contests() -> Vec<Contest> {
     let only = std::env::var("BENCH_ONLY").unwrap_or_default();
@@ -224,20 +261,18 @@ fn all_contests() -> Vec<Contest> {
     let no_cell = damaged(random, |_, map, _| map.marks.fill(0), false);
     let wrong_word = damaged(random, |_, _, word| *word = 0x3000, false);
     // drawn last, so that the other inputs are those of before
-    let mut steep = Vec::new();
-    while steep.len() < inputs::AIRCRAFT {
-        let a = inputs::steep_aircraft(random);
-        if !steep.contains(&a) {
-            steep.push(a);
-        }
-    }
+    let steep = different(random, inputs::steep_aircraft);
     let operating = (0..inputs::OPERATING_DESCENTS).map(|_| inputs::operating_descent(random)).collect();
     let endless = (0..inputs::ENDLESS_DESCENTS).map(|_| inputs::endless_descent(random)).collect();
+    let wanted_speeds = different(random, inputs::wanted_speed);
+    let wanted_masses = different(random, inputs::wanted_mass);
     vec![
         sheet_contest(aircraft),
         high_angle_contest(steep),
         descent_contest("descent from 30 to 120 m, a step", operating, 0),
         descent_contest("descent, refusal 18, 20,000 steps, a step", endless, 18),
+        trade_off_contest!("greatest speed", greatest_speed, speed in 1..40_000, wanted_speeds),
+        trade_off_contest!("greatest mass", greatest_mass, mass in 51..25_000_000, wanted_masses),
         footprint_contest("footprint, full maps", full_maps),
         footprint_contest("footprint, sparse maps", sparse_maps),
         reading_contest("reading, full texts", &full),
@@ -290,6 +325,7 @@ fn compare() {
     agreement::cases(&mut random, &mut tally);
     agreement::high_angles(&mut random, &mut tally);
     agreement::descents(&mut random, &mut tally);
+    agreement::trade_offs(&mut random, &mut tally);
     println!(
         "All three agree on {} inputs, {} of them refused, and on what is left in the lent buffers.\n",
         tally.inputs, tally.refused
@@ -298,7 +334,7 @@ fn compare() {
 
 fn print_table() {
     println!(
-        "{} texts, {} maps, {} aircraft for the sheet and {2} for the high angle, {} falls from 30 to 120 m and {} of 20,000 steps, all different, shared by the contestants. Lent buffers are lent again without clearing.\n",
+        "{} texts, {} maps, {} aircraft for the sheet and {2} each for the high angle, the greatest speed and the greatest mass, {} falls from 30 to 120 m and {} of 20,000 steps, all different, shared by the contestants. Lent buffers are lent again without clearing.\n",
         inputs::TEXTS,
         inputs::MAPS,
         inputs::AIRCRAFT,

@@ -1,5 +1,5 @@
 //! The operations as one would write them first: match, early exits, Option and Result, u128 where a product might be long, a root
-//! by powf that is then made right.
+//! by powf that is then made right, a greatest number by bisection over whole sheets.
 
 use crate::ffi::{Bracket, CaseHead, Descent, Fall, Footprint, FrameFields, HighAngle, Sheet};
 use nuggetbay::layout::{line_1_place, COUNT_DIGITS, LINE_1_LENGTH, MARK_DIGITS};
@@ -180,6 +180,57 @@ pub fn descent(dimension: u32, mass: u32, speed: u32, height: u32, budget: u32) 
         }
     }
     Err(18)
+}
+
+/// Whether the sheet is accepted with a column at most this one.
+fn passes(dimension: u32, mass: u32, speed: u32, column: u8) -> bool {
+    sheet(dimension, mass, speed).map_or(false, |sheet| sheet.column <= column)
+}
+
+/// The greatest number of a range that passes, where none passes above one that doesn't. By bisection: what one might write first, a
+/// walk down from the top, would make up to 25,000,000 sheets a call.
+fn greatest(least: u32, most: u32, passes: impl Fn(u32) -> bool) -> Option<u32> {
+    if !passes(least) {
+        return None;
+    }
+    let (mut low, mut high) = (least, most + 1);
+    while high - low > 1 {
+        let middle = (low + high) / 2;
+        if passes(middle) {
+            low = middle;
+        } else {
+            high = middle;
+        }
+    }
+    Some(low)
+}
+
+#[inline(never)]
+pub fn greatest_speed(dimension: u32, mass: u32, column: u8) -> Result<u32, u8> {
+    if !(50..=100_000).contains(&dimension) {
+        return Err(1);
+    }
+    if !(50..=25_000_000).contains(&mass) {
+        return Err(2);
+    }
+    if !(1..=5).contains(&column) {
+        return Err(20);
+    }
+    greatest(0, 40_000, |speed| passes(dimension, mass, speed, column)).ok_or(21)
+}
+
+#[inline(never)]
+pub fn greatest_mass(dimension: u32, speed: u32, column: u8) -> Result<u32, u8> {
+    if !(50..=100_000).contains(&dimension) {
+        return Err(1);
+    }
+    if speed > 40_000 {
+        return Err(3);
+    }
+    if !(1..=5).contains(&column) {
+        return Err(20);
+    }
+    greatest(50, 25_000_000, |mass| passes(dimension, mass, speed, column)).ok_or(21)
 }
 
 fn table_row(people: u32, cell_area: u32) -> u8 {

@@ -1,8 +1,11 @@
 //! The operations tuned by hand for the same target (x86-64 with SSE2, safe Rust, no intrinsics): no early exit where bytes or
 //! cells are walked, lanes of digits, cells chosen by masks, one division where two quotients differ by one, roots from parabolas,
-//! steps of a fall that don't wait for the one before.
+//! steps of a fall that don't wait for the one before, bisections without branches whose limit is worked out before.
 
-use crate::ffi::{Bracket, CaseHead, Descent, Fall, Footprint, FrameFields, HighAngle, Reading, Sheet, SheetAnswer};
+use crate::ffi::{
+    Bracket, CaseHead, Descent, Fall, Footprint, FrameFields, GreatestMass, GreatestSpeed, HighAngle, Reading, Sheet,
+    SheetAnswer,
+};
 use nuggetbay::layout::{frame_place, line_1_place, COUNTS, COUNT_LINE, LINE_1_LENGTH, MARKS, MARK_LINE};
 use nuggetbay::layout::{FRAME_LENGTH, MAP_CELLS, MAP_COLUMNS, MAP_ROWS, REFUSAL_LENGTH, TEXT_LENGTH};
 use std::ops::Range;
@@ -355,6 +358,117 @@ pub fn descent(dimension: u32, mass: u32, speed: u32, height: u32, budget: u32) 
     let area = frontal_area(u64::from(dimension)) as f64 / 1_000_000.0;
     let body = Body { drag: 0.5 * 1.225 * area * 0.8, mass: f64::from(mass) / 1_000.0 };
     fall_from(body, f64::from(height) / 100.0, budget, f64::from(speed) / 100.0)
+}
+
+/// The largest total of each column, in thousandths of a square millimetre: up to 8,000 mm, where six tenths of it count, and above.
+static TOTALS: [[i64; 5]; 2] = {
+    let mut totals = [[0; 5]; 2];
+    let mut column = 0;
+    while column < 5 {
+        totals[0][column] = 500_000 * LIMITS[column] as i64 / 3;
+        totals[1][column] = 100_000 * LIMITS[column] as i64;
+        column += 1;
+    }
+    totals
+};
+
+/// The dividend of the low saving.
+const SAVING: i64 = 39_415_562_351;
+
+/// A quotient rounded down. On many processors the division of f64 is the faster one. It is exact for whole numbers below 2^53: a
+/// quotient that isn't whole is further below the next whole number than a rounding moves it.
+fn quotient(number: i64, by: i64) -> i64 {
+    (number as f64 / by as f64) as i64
+}
+
+/// Up to 1,000 mm, where there is no slide: whether the area is within the column's limit.
+fn fits_without_slide(dimension: u32, column: u8) -> bool {
+    let a = u64::from(dimension) + 600;
+    a * (5_141_334 + 785 * a) <= 200_000 * LIMITS[usize::from(column - 1) % 5]
+}
+
+/// Above 1,000 mm: the longest high slide, in micrometres, with which the area is within the column's limit; negative where it isn't
+/// with none.
+fn longest_slide(dimension: u32, column: u8) -> i64 {
+    let a = i64::from(dimension) + 600;
+    quotient(TOTALS[usize::from(dimension > 8_000)][usize::from(column - 1) % 5], a) - (2_570_667 + 785 * a)
+}
+
+fn refused_speed(refusal: u8) -> GreatestSpeed {
+    GreatestSpeed { refusal, speed: 0 }
+}
+
+/// By bisection: whether a speed passes is one product and one comparison, and half of such branches wouldn't be foreseen, so there are
+/// conditional moves. Four ways a round, products in 32 bits, or a first round against a table of squares took as long or longer.
+#[inline(never)]
+pub fn greatest_speed(dimension: u32, mass: u32, column: u8) -> GreatestSpeed {
+    if dimension.wrapping_sub(50) > 99_950 {
+        return refused_speed(1);
+    }
+    if mass.wrapping_sub(50) > 24_999_950 {
+        return refused_speed(2);
+    }
+    if column.wrapping_sub(1) > 4 {
+        return refused_speed(20);
+    }
+    if dimension <= 1_000 {
+        let fits = fits_without_slide(dimension, column);
+        return if fits { GreatestSpeed { refusal: 0, speed: 40_000 } } else { refused_speed(21) };
+    }
+    let slide = longest_slide(dimension, column);
+    if slide < 0 {
+        return refused_speed(21);
+    }
+    // the longest high run, at most that of the last speed in range
+    let run = (slide + quotient(SAVING, i64::from(mass))).min(3_082_587_895) as u64;
+    let largest_square = run * 1_000_000_000 / 1_926_617_434;
+    let mut speed = 0;
+    for bit in (0..16).rev() {
+        let faster = speed | 1 << bit;
+        speed = if faster * faster <= largest_square { faster } else { speed };
+    }
+    GreatestSpeed { refusal: 0, speed: speed as u32 }
+}
+
+fn refused_mass(refusal: u8) -> GreatestMass {
+    GreatestMass { refusal, mass: 0 }
+}
+
+/// By bisection, as the speed. A mass passes where its product with the saving that is needed is at most the saving's dividend. What
+/// the product leaves of that is kept from round to round, so that a round is a subtraction: with a product it took a third longer.
+#[inline(never)]
+pub fn greatest_mass(dimension: u32, speed: u32, column: u8) -> GreatestMass {
+    if dimension.wrapping_sub(50) > 99_950 {
+        return refused_mass(1);
+    }
+    if speed > 40_000 {
+        return refused_mass(3);
+    }
+    if column.wrapping_sub(1) > 4 {
+        return refused_mass(20);
+    }
+    if dimension <= 1_000 {
+        let fits = fits_without_slide(dimension, column);
+        return if fits { GreatestMass { refusal: 0, mass: 25_000_000 } } else { refused_mass(21) };
+    }
+    let slide = longest_slide(dimension, column);
+    if slide < 0 {
+        return refused_mass(21);
+    }
+    let square = u64::from(speed) * u64::from(speed);
+    let run = (square * 1_926_617_434 + 999_999_999) / 1_000_000_000;
+    let needed = (run as i64 - slide).max(0);
+    let (mut mass, mut rest, mut part) = (0, SAVING, needed << 24);
+    for _ in 0..25 {
+        let left = rest - part;
+        mass = mass << 1 | u32::from(left >= 0);
+        rest = if left >= 0 { left } else { rest };
+        part >>= 1;
+    }
+    if mass < 50 {
+        return refused_mass(21);
+    }
+    GreatestMass { refusal: 0, mass: mass.min(25_000_000) }
 }
 
 fn table_row(people: u32, cell_area: u32) -> u8 {

@@ -60,6 +60,20 @@ pub struct Descent {
 
 #[repr(C)]
 #[derive(Clone, Copy, Debug, Default, PartialEq, Eq)]
+pub struct GreatestSpeed {
+    pub refusal: u8,
+    pub speed: u32,
+}
+
+#[repr(C)]
+#[derive(Clone, Copy, Debug, Default, PartialEq, Eq)]
+pub struct GreatestMass {
+    pub refusal: u8,
+    pub mass: u32,
+}
+
+#[repr(C)]
+#[derive(Clone, Copy, Debug, Default, PartialEq, Eq)]
 pub struct Footprint {
     pub refusal: u8,
     pub row: u8,
@@ -130,6 +144,8 @@ extern "C" {
     pub fn nb_sheet(dimension: u32, mass: u32, speed: u32) -> SheetAnswer;
     pub fn nb_high_angle(dimension: u32, mass: u32, speed: u32) -> HighAngle;
     pub fn nb_descent(dimension: u32, mass: u32, speed: u32, height: u32, budget: u32) -> Descent;
+    pub fn nb_greatest_speed(dimension: u32, mass: u32, column: u8) -> GreatestSpeed;
+    pub fn nb_greatest_mass(dimension: u32, speed: u32, column: u8) -> GreatestMass;
     pub fn nb_footprint(
         counts: *const u32,
         counts_len: usize,

@@ -27,8 +27,9 @@
 //! [`assess`] answers numbers for a map in memory. [`case`] reads a case text and prints a frame; [`read_case`] and [`write_frame`]
 //! are its two ends. [`sheet`], [`footprint`], [`intrinsic_class`] and [`final_class`] are the steps of an assessment.
 //! [`high_angle`] is the critical area by the EASA guideline's other model, for rotorcraft and multirotors that strike at
-//! more than 60 degrees, which [`descent`] judges; no assessment takes either by itself. `include/nuggetbay.h` says the same for C,
-//! function by function.
+//! more than 60 degrees, which [`descent`] judges; no assessment takes either by itself. [`greatest_speed`] and [`greatest_mass`] are
+//! the sheet asked the other way round: how fast or how heavy an aircraft may be for a column. `include/nuggetbay.h` says the same for
+//! C, function by function.
 
 #![deny(missing_docs)]
 #![warn(clippy::missing_errors_doc, clippy::undocumented_unsafe_blocks)]
@@ -161,6 +162,69 @@ pub fn descent(aircraft: Aircraft, height: u32, budget: u32) -> Result<Descent, 
     let answer = unsafe { ffi::nb_descent(dimension, mass, speed, height, budget) };
     accepted(answer.refusal)?;
     Ok(answer.into())
+}
+
+/// The greatest speed in cm/s (0 to 40,000) with which the [`sheet`] of an aircraft of this dimension and mass is accepted with a
+/// column at most the wanted one (1 to 5): the trade-off that Annex F, section 1.7.4, makes by tables, made for one aircraft.
+///
+/// Every lower speed passes too, and no higher one does: an upper limit for the operator's manual. The column is that of the sheet's
+/// glide model, from the high area; the model of [`high_angle`] has no part in it. Where the area has no slide, it depends on neither
+/// speed nor mass, and for every column the answer is 40,000, the greatest in range.
+///
+/// # Errors
+///
+/// [`Refusal::Dimension`], [`Refusal::Mass`] as [`sheet`]; [`Refusal::WantedColumn`] where the column is outside 1 to 5;
+/// [`Refusal::NoneForColumn`] exactly where no speed in range passes, which is where 0 doesn't.
+///
+/// # Examples
+///
+/// ```
+/// use nuggetbay::{greatest_speed, sheet, Aircraft, Refusal};
+///
+/// let (dimension, mass) = (3_000, 25_000);
+/// let speed = greatest_speed(dimension, mass, 2)?;
+/// assert_eq!(speed, 3_692);
+/// assert_eq!(sheet(Aircraft { dimension, mass, speed })?.column, 2);
+/// assert_eq!(sheet(Aircraft { dimension, mass, speed: speed + 1 })?.column, 3);
+///
+/// assert_eq!(greatest_speed(dimension, mass, 1), Err(Refusal::NoneForColumn));
+/// # Ok::<(), Refusal>(())
+/// ```
+pub fn greatest_speed(dimension: u32, mass: u32, column: u8) -> Result<u32, Refusal> {
+    // SAFETY: numbers only.
+    let answer = unsafe { ffi::nb_greatest_speed(dimension, mass, column) };
+    accepted(answer.refusal)?;
+    Ok(answer.speed)
+}
+
+/// The greatest mass in g (50 to 25,000,000) with which the [`sheet`] of an aircraft of this dimension and speed is accepted with a
+/// column at most the wanted one (1 to 5). All else is as with [`greatest_speed`]: every lower mass in range passes too, and where the
+/// area has no slide the answer is 25,000,000, the greatest in range.
+///
+/// # Errors
+///
+/// [`Refusal::Dimension`], [`Refusal::Speed`] as [`sheet`]; [`Refusal::WantedColumn`] where the column is outside 1 to 5;
+/// [`Refusal::NoneForColumn`] exactly where no mass in range passes, which is where 50 g don't.
+///
+/// # Examples
+///
+/// ```
+/// use nuggetbay::{greatest_mass, sheet, Aircraft, Refusal};
+///
+/// let (dimension, speed) = (3_000, 5_000);
+/// let mass = greatest_mass(dimension, speed, 2)?;
+/// assert_eq!(mass, 1_679);
+/// assert_eq!(sheet(Aircraft { dimension, mass, speed })?.column, 2);
+/// assert_eq!(sheet(Aircraft { dimension, mass: mass + 1, speed })?.column, 3);
+///
+/// assert_eq!(greatest_mass(dimension, speed, 6), Err(Refusal::WantedColumn));
+/// # Ok::<(), Refusal>(())
+/// ```
+pub fn greatest_mass(dimension: u32, speed: u32, column: u8) -> Result<u32, Refusal> {
+    // SAFETY: numbers only.
+    let answer = unsafe { ffi::nb_greatest_mass(dimension, speed, column) };
+    accepted(answer.refusal)?;
+    Ok(answer.mass)
 }
 
 /// The footprint on a map: [`MAP_CELLS`] counts (0 to 1,000,000 people each), [`MAP_ROWS`] footprint rows, and the area of one

@@ -81,6 +81,8 @@ refusals! {
     17 HeightOrBudget "height or step budget out of range: 1 to 50,000 cm and 1 to 20,000 steps are allowed"
     18 BudgetSpent "step budget spent before the ground is reached: more steps are needed, at most 20,000 are allowed"
     19 NegativeSpeed "a step makes a speed negative: too light for its frontal area and speed, more mass or less speed is needed for steps of 0.01 s"
+    20 WantedColumn "wanted column out of range: 1 to 5 is allowed"
+    21 NoneForColumn "no speed or mass in range gives this column or a lower one: a higher column, a smaller dimension or, for a mass, less speed is needed"
 }
 
 impl Refusal {

@@ -35,6 +35,12 @@ fn descent(arguments: &[&str]) -> Command {
     command
 }
 
+fn trade_off(arguments: &[&str]) -> Command {
+    let mut command = example_called("trade_off");
+    command.args(arguments);
+    command
+}
+
 fn stored(name: &str) -> PathBuf {
     [env!("CARGO_MANIFEST_DIR"), "../../examples", name].iter().collect()
 }
@@ -123,6 +129,72 @@ fn no_descent_ends_with_2() {
     }
 }
 
+fn said(command: &mut Command) -> (Option<i32>, String) {
+    let Output { status, stdout, .. } = command.output().expect("cargo test builds the examples");
+    (status.code(), String::from_utf8_lossy(&stdout).into_owned())
+}
+
+#[test]
+fn trade_offs_end_with_0_or_1() {
+    let _alone = alone();
+    let speed = "greatest speed for column 2: 3,692 cm/s\n\
+        critical area at this speed: 649,760 to 649,761 square centimetres\n\
+        column at this speed: 2\n";
+    assert_eq!(said(&mut trade_off(&["speed", "3000", "25000", "2"])), (Some(0), speed.to_string()));
+    let mass = "greatest mass for column 2: 1,679 g\n\
+        critical area at this mass: 649,868 to 649,869 square centimetres\n\
+        column at this mass: 2\n";
+    assert_eq!(said(&mut trade_off(&["mass", "3000", "5000", "2"])), (Some(0), mass.to_string()));
+    for (refused, number) in [
+        (["speed", "49", "25000", "2"], 1),
+        (["speed", "3000", "49", "2"], 2),
+        (["mass", "3000", "40001", "2"], 3),
+        (["speed", "3000", "25000", "1"], 21),
+        (["mass", "3000", "5000", "1"], 21),
+    ] {
+        let (status, words) = said(&mut trade_off(&refused));
+        assert_eq!((status, words.lines().count()), (Some(1), 1));
+        assert!(words.starts_with(&format!("refusal {number}: ")), "{words}");
+    }
+}
+
+#[test]
+fn columns_of_more_than_8_bits_are_refused_as_0_is() {
+    let _alone = alone();
+    for sought in ["speed", "mass"] {
+        let zero = said(&mut trade_off(&[sought, "3000", "25000", "0"]));
+        assert!(zero.1.starts_with("refusal 20: "), "{}", zero.1);
+        // in the last 8 bits a column
+        for column in ["6", "255", "256", "258", "65538", "4294967042"] {
+            assert_eq!(said(&mut trade_off(&[sought, "3000", "25000", column])), zero);
+            assert!(said(&mut trade_off(&[sought, "49", "25000", column])).1.starts_with("refusal 1: "));
+        }
+    }
+}
+
+#[test]
+fn no_trade_off_ends_with_2() {
+    let _alone = alone();
+    let right = ["speed", "3000", "25000", "2"];
+    let usage =
+        "usage: trade_off speed DIMENSION MASS COLUMN, or trade_off mass DIMENSION SPEED COLUMN, in mm, g and cm/s\n"
+            .to_string();
+    for arguments in [&[][..], &right[..3], &["speed", "3000", "25000", "2", "2"], &right[1..]] {
+        assert_eq!(ended(&mut trade_off(arguments)), (Some(2), usage.clone()));
+    }
+    for wrong in ["", "x", "-1", "+1", " 1", "1.0", "1e3", "0x10", "1_000", "4294967296", "18446744073709551617"] {
+        assert_eq!(ended(&mut trade_off(&[wrong, "3000", "25000", "2"])), (Some(2), usage.clone()));
+        for sought in ["speed", "mass"] {
+            for place in 1..right.len() {
+                let mut arguments = right;
+                (arguments[0], arguments[place]) = (sought, wrong);
+                let said = format!("not a number of 32 bits: '{wrong}'\n");
+                assert_eq!(ended(&mut trade_off(&arguments)), (Some(2), said));
+            }
+        }
+    }
+}
+
 /// A pipe that nobody reads any more.
 fn closed_pipe() -> Stdio {
     let mut reader = Command::new("true").stdin(Stdio::piped()).spawn().expect("there is a program true");
@@ -147,7 +219,10 @@ fn words_that_cannot_be_written_end_with_2() {
         }
         for dimension in ["1100", "999"] {
             let fall = [dimension, "15000", "2500", "5740"];
-            for (program, arguments) in [(high_angle as fn(&[&str]) -> Command, &fall[..3]), (descent, &fall)] {
+            let speed = ["speed", "3000", "25000", if dimension == "999" { "1" } else { "2" }];
+            for (program, arguments) in
+                [(high_angle as fn(&[&str]) -> Command, &fall[..3]), (descent, &fall), (trade_off, &speed)]
+            {
                 let (status, said) = ended(program(arguments).stdout(output()));
                 assert_eq!((status, said.lines().count()), (Some(2), 1), "{said}");
                 assert!(said.starts_with("can't write: "), "{said}");

@@ -1,5 +1,5 @@
-//! The safe calls: the worked points P1 to P16 of document 01, the high impact angle model, the descent, every refusal, and what is
-//! left in lent buffers.
+//! The safe calls: the worked points P1 to P16 of document 01, the high impact angle model, the descent, the greatest speed and mass,
+//! every refusal, and what is left in lent buffers.
 
 use nuggetbay::layout::{
     frame_place, line_1_place, COUNT_DIGITS, COUNT_LINE, FRAME, LINE_1, LINE_1_LENGTH, MARK_DIGITS, MARK_LINE,
@@ -220,6 +220,80 @@ fn descent_refusals_in_their_order() {
     assert_eq!(refused(1_000, 50, 40_000, 1), Some(Refusal::NegativeSpeed));
     assert_eq!(refused(40_000, 50, 40_000, HEIGHT_MOST), Some(Refusal::NegativeSpeed));
     assert_eq!(refused(40_000, 25_000_000, 40_000, HEIGHT_MOST), None);
+}
+
+/// Whether the sheet is accepted with a column at most this one.
+fn passes(dimension: u32, mass: u32, speed: u32, column: u8) -> bool {
+    sheet(Aircraft { dimension, mass, speed }).map_or(false, |sheet| sheet.column <= column)
+}
+
+#[test]
+fn the_greatest_speeds_and_masses_of_an_aircraft() {
+    let none = Err(Refusal::NoneForColumn);
+    let speeds = |dimension, mass| [1, 2, 3, 4, 5].map(|column| greatest_speed(dimension, mass, column));
+    assert_eq!(speeds(1_500, 10_000), [Ok(1_591), Ok(5_160), Ok(16_359), Ok(40_000), Ok(40_000)]);
+    assert_eq!(speeds(3_000, 25_000), [none, Ok(3_692), Ok(12_418), Ok(39_496), Ok(40_000)]);
+    let masses = |dimension, speed| [1, 2, 3, 4, 5].map(|column| greatest_mass(dimension, speed, column));
+    assert_eq!(masses(1_500, 3_000), [Ok(2_403), Ok(25_000_000), Ok(25_000_000), Ok(25_000_000), Ok(25_000_000)]);
+    assert_eq!(masses(3_000, 5_000), [none, Ok(1_679), Ok(25_000_000), Ok(25_000_000), Ok(25_000_000)]);
+}
+
+#[test]
+fn no_larger_number_passes_and_the_greatest_does() {
+    let (dimensions, masses) = ([50, 999, 1_500, 3_000, 7_999, 8_001, 20_000, 100_000], [50, 900, 25_000, 25_000_000]);
+    for dimension in dimensions {
+        for column in 1..=5 {
+            for mass in masses {
+                let passes = |speed| passes(dimension, mass, speed, column);
+                match greatest_speed(dimension, mass, column) {
+                    Ok(speed) => assert!(passes(speed) && (speed == 40_000 || !passes(speed + 1))),
+                    Err(refusal) => assert!(refusal == Refusal::NoneForColumn && !passes(0)),
+                }
+            }
+            for speed in [0, 1_500, 7_500, 40_000] {
+                let passes = |mass| passes(dimension, mass, speed, column);
+                match greatest_mass(dimension, speed, column) {
+                    Ok(mass) => assert!(passes(mass) && (mass == 25_000_000 || !passes(mass + 1))),
+                    Err(refusal) => assert!(refusal == Refusal::NoneForColumn && !passes(50)),
+                }
+            }
+        }
+    }
+}
+
+#[test]
+fn where_the_area_has_no_slide_the_ends_of_the_ranges_are_the_greatest() {
+    for number in [50, 25_000, 40_000] {
+        assert_eq!(greatest_speed(999, number, 1), Ok(40_000));
+        assert_eq!(greatest_mass(999, number, 1), Ok(25_000_000));
+    }
+}
+
+#[test]
+fn refusals_of_the_greatest_in_their_order() {
+    for dimension in [0, 49, 100_001, u32::MAX] {
+        assert_eq!(greatest_speed(dimension, 49, 0), Err(Refusal::Dimension));
+        assert_eq!(greatest_mass(dimension, 40_001, 0), Err(Refusal::Dimension));
+    }
+    for dimension in [50, 100_000] {
+        for mass in [0, 49, 25_000_001, u32::MAX] {
+            assert_eq!(greatest_speed(dimension, mass, 0), Err(Refusal::Mass));
+        }
+        for speed in [40_001, u32::MAX] {
+            assert_eq!(greatest_mass(dimension, speed, 0), Err(Refusal::Speed));
+        }
+        for column in [0, 6, 255] {
+            assert_eq!(greatest_speed(dimension, 50, column), Err(Refusal::WantedColumn));
+            assert_eq!(greatest_mass(dimension, 40_000, column), Err(Refusal::WantedColumn));
+        }
+    }
+    // the largest has no column below 5, whatever its speed or mass
+    assert_eq!(greatest_speed(100_000, 50, 4), Err(Refusal::NoneForColumn));
+    assert_eq!(greatest_mass(100_000, 0, 4), Err(Refusal::NoneForColumn));
+    assert!(greatest_speed(100_000, 50, 5).is_ok() && greatest_mass(100_000, 0, 5).is_ok());
+    // a mass may be in range and a column too low for the speed alone
+    assert_eq!(greatest_mass(1_500, 40_000, 1), Err(Refusal::NoneForColumn));
+    assert!(greatest_mass(1_500, 0, 1).is_ok());
 }
 
 /// A map with people in one marked cell.
@@ -474,7 +548,7 @@ fn refusals_are_found_by_their_numbers() {
             Ok(refusal) => assert_eq!((Some(refusal), refusal.number()), (found, number)),
             Err(error) => assert_eq!((None, error.number()), (found, number)),
         }
-        assert_eq!(found.is_some(), (1..=19).contains(&number));
+        assert_eq!(found.is_some(), (1..=21).contains(&number));
     }
 }
 
@@ -492,7 +566,7 @@ fn ranges_are_as_the_messages_say() {
     let (counts, marks) = one_cell(1, 0);
     let cell_area = |cell_area| footprint(&counts, &marks, cell_area).err();
     let of_descent = |aircraft| descent(aircraft, 1, BUDGET_MOST).err();
-    let ranges: [(Refusal, u32, u32, Refused); 14] = [
+    let ranges: [(Refusal, u32, u32, Refused); 20] = [
         (Refusal::Dimension, 50, 100_000, &|dimension| sheet(Aircraft { dimension, ..P2 }).err()),
         (Refusal::Mass, 50, 25_000_000, &|mass| sheet(Aircraft { mass, ..P2 }).err()),
         (Refusal::Speed, 0, 40_000, &|speed| sheet(Aircraft { speed, ..P2 }).err()),
@@ -507,6 +581,12 @@ fn ranges_are_as_the_messages_say() {
         (Refusal::FrontalDimension, 1_000, 40_000, &|dimension| of_descent(Aircraft { dimension, ..P2 })),
         (Refusal::HeightOrBudget, 1, HEIGHT_MOST, &|height| descent(P2, height, 1).err()),
         (Refusal::HeightOrBudget, 1, BUDGET_MOST, &|budget| descent(P2, 1, budget).err()),
+        (Refusal::Dimension, 50, 100_000, &|dimension| greatest_speed(dimension, P2.mass, 5).err()),
+        (Refusal::Mass, 50, 25_000_000, &|mass| greatest_speed(P2.dimension, mass, 5).err()),
+        (Refusal::WantedColumn, 1, 5, &|column| greatest_speed(P2.dimension, P2.mass, column as u8).err()),
+        (Refusal::Dimension, 50, 100_000, &|dimension| greatest_mass(dimension, P2.speed, 5).err()),
+        (Refusal::Speed, 0, 40_000, &|speed| greatest_mass(P2.dimension, speed, 5).err()),
+        (Refusal::WantedColumn, 1, 5, &|column| greatest_mass(P2.dimension, P2.speed, column as u8).err()),
     ];
     for (refusal, low, high, refused) in ranges {
         let range = format!(" {} to {} ", with_commas(low as usize), with_commas(high as usize));
@@ -571,6 +651,8 @@ fn sizes_are_those_of_the_header() {
         ("high_angle", size_of::<HighAngle>()),
         ("fall", size_of::<Fall>()),
         ("descent", size_of::<Descent>()),
+        ("greatest_speed", size_of::<GreatestSpeed>()),
+        ("greatest_mass", size_of::<GreatestMass>()),
         ("footprint", size_of::<Footprint>()),
         ("intrinsic_class", size_of::<IntrinsicClass>()),
         ("final_class", size_of::<FinalClass>()),

@@ -1,5 +1,6 @@
 -- The column of the class table and the flag.
 use Rattle.std.specs.Prelude.{Bool, cond, List, [], ◌∷◌, ℕ, suc, ◌-◌, eqb, leb, ltb, get_or, Option, None, Some}
+use Rattle.arithmetic.specs.Conditions.{outside}
 use Rattle.columns.specs.declared.Bracket.{Bracket}
 use Rattle.columns.specs.declared.ColumnAndFlag.{ColumnAndFlag}
 
@@ -44,3 +45,11 @@ column_and_flag_of area = column_and_flag (column_of area.high) (flag_of area.lo
 -- what the code gives for them: "above the last limit" no column is found
 abbrev pub column_found : ColumnAndFlag → Option ColumnAndFlag
 column_found c = cond (eqb c.column 0) None (Some c)
+
+-- "the wanted column isn't 1 to 5" (document 02, item 5)
+abbrev pub not_a_column : ℕ → Bool
+not_a_column c = outside 1 column_count c
+
+-- what the code gives for a column's limit: none where it is no column
+abbrev pub limit_of_column : ℕ → Option ℕ
+limit_of_column c = cond (not_a_column c) None (Some (limit_at (c - 1)))

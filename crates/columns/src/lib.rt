@@ -3,7 +3,7 @@
 #![tactic(auto)]
 
 ghost use Rattle.std.specs.Prelude.{◌≡◌};
-ghost use Rattle.columns.specs.Column.{column_and_flag_of, column_found};
+ghost use Rattle.columns.specs.Column.{column_and_flag_of, column_found, limit_of_column};
 ghost use Rattle.columns.specs.SizeColumn.{size_column_of, size_column_found};
 
 // A number at most the exact one, and a number at least the exact one.
@@ -73,6 +73,16 @@ pub fn column_and_flag(area: Bracket) -> Option<ColumnAndFlag>
         flagged_below = *limit + 1;
     }
     None
+}
+
+// The area limit of a column of the class table; none for a number that is no column.
+pub fn limit_of(column: u8) -> Option<u64>
+    ensures { result ≡ limit_of_column column }
+{
+    if (column < 1) | (LIMITS.len() < column as usize) {
+        return None;
+    }
+    Some(LIMITS[column as usize - 1])
 }
 
 // The first size column whose dimension and speed are both at least the aircraft's. The pairs are walked from the last to the first,

@@ -6,6 +6,7 @@ ghost use Rattle.std.specs.Prelude.{◌≡◌};
 ghost use Rattle.sheet.specs.Sheet.{sheet_of};
 ghost use Rattle.high_angle.specs.HighAngle.{high_angle_of};
 ghost use Rattle.descent.specs.Descent.{descent_of};
+ghost use Rattle.trade_off.specs.TradeOff.{greatest_speed_of, greatest_mass_of};
 ghost use Rattle.footprint.specs.Footprint.{footprint_of};
 ghost use Rattle.risk_class.specs.ClassTable.{intrinsic_class_of};
 ghost use Rattle.risk_class.specs.Mitigation.{final_class_of};
@@ -25,6 +26,7 @@ use map::GroundMap;
 use refusal::refusal_number;
 use risk_class::{FinalClass, IntrinsicClass, final_class, intrinsic_class};
 use sheet::{Aircraft, SheetAnswer};
+use trade_off::{GreatestMass, GreatestSpeed, greatest_mass, greatest_speed};
 
 // The aircraft's sheet.
 #[unsafe(no_mangle)]
@@ -69,6 +71,22 @@ pub extern "C" fn nb_descent(
         speed,
     };
     Descent::from(descent_of(aircraft, height, budget))
+}
+
+// The greatest speed for a column.
+#[unsafe(no_mangle)]
+pub extern "C" fn nb_greatest_speed(dimension: u32, mass: u32, column: u8) -> GreatestSpeed
+    ensures { result ≡ greatest_speed_of dimension mass column }
+{
+    GreatestSpeed::from(greatest_speed(dimension, mass, column))
+}
+
+// The greatest mass for a column.
+#[unsafe(no_mangle)]
+pub extern "C" fn nb_greatest_mass(dimension: u32, speed: u32, column: u8) -> GreatestMass
+    ensures { result ≡ greatest_mass_of dimension speed column }
+{
+    GreatestMass::from(greatest_mass(dimension, speed, column))
 }
 
 // The footprint on a lent map.

@@ -5,7 +5,7 @@ use Rattle.std.specs.Result.{IsErrAnd}
 use Prim.Native.Nat.{ℕ}
 use native.Mathlib.Omega.{arith}
 use Rattle.refusal.specs.declared.Refusal.{Refusal}
-use Rattle.refusal.specs.declared.Refusal.TheVariants.{Dimension, Mass, Speed, Area, BufferLength, CellArea, HeadCount, NoMark, ClassInput, NoClass, MitigationDigit, FinalClass, TextLength, TextByte, FrameLength, NoFrontalArea, HeightOrBudget, BudgetSpent, NegativeSpeed}
+use Rattle.refusal.specs.declared.Refusal.TheVariants.{Dimension, Mass, Speed, Area, BufferLength, CellArea, HeadCount, NoMark, ClassInput, NoClass, MitigationDigit, FinalClass, TextLength, TextByte, FrameLength, NoFrontalArea, HeightOrBudget, BudgetSpent, NegativeSpeed, WantedColumn, NoneForColumn}
 use Rattle.refusal.specs.Numbers.{number_of, answer_as}
 
 -- no refusal has the number of none
@@ -29,6 +29,8 @@ number_nonzero NoFrontalArea e = omega (arith, e)
 number_nonzero HeightOrBudget e = omega (arith, e)
 number_nonzero BudgetSpent e = omega (arith, e)
 number_nonzero NegativeSpeed e = omega (arith, e)
+number_nonzero WantedColumn e = omega (arith, e)
+number_nonzero NoneForColumn e = omega (arith, e)
 
 -- an error that is passed on is the answer refused with its number
 pub passed_on : {A B : Type 0} (accepted : A → B) (refused : ℕ → B) (r : Result A Refusal) (e : Refusal) → IsErrAnd r (λ x. x ≡ e)

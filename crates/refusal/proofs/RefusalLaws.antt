@@ -41,6 +41,30 @@ first_exactly_when (t ∷ ts) d n =
     by_tests false true e never rest = (λ k. absurd (never (k ∙ sym (eqb-true _ _ e))), λ k. absurd (false≢true k))
     by_tests false false e never rest = (λ k. (refl, rest.0 k), λ k. rest.1 k.1)
 
+-- ---- tests after tests
+
+-- no test has the number n, to be computed
+abbrev pub none_numbered : ℕ → List Test → Bool
+none_numbered n [] = true
+none_numbered n (t ∷ ts) = not (eqb t.number n) && none_numbered n ts
+
+-- of tests after those with other numbers, n's is the first to hold where none of those before does and it is the first of its own
+pub first_after : (ts us : List Test) (n : ℕ) → none_numbered 0 ts ≡ true → none_numbered n ts ≡ true
+    → FirstToHold (ts ++ us) n ↔ FirstToHold ts 0 × FirstToHold us n
+first_after [] us n z d = (λ h. (refl, h), λ h. h.1)
+first_after (t ∷ ts) us n z d =
+    let y = both (not (eqb t.number 0)) (none_numbered 0 ts) z in
+    let e = both (not (eqb t.number n)) (none_numbered n ts) d in
+    by_tests (eqb t.number n) (eqb t.number 0) (not-true _ e.0) (not-true _ y.0) (first_after ts us n y.1 e.1)
+  where
+    by_tests : (b q : Bool) → b ≡ false → q ≡ false → (FirstToHold (ts ++ us) n ↔ FirstToHold ts 0 × FirstToHold us n)
+        → cond b (t.holds ≡ true) ((t.holds ≡ false) × FirstToHold (ts ++ us) n)
+        ↔ cond q (t.holds ≡ true) ((t.holds ≡ false) × FirstToHold ts 0) × FirstToHold us n
+    by_tests true q e f rest = absurd (true≢false e)
+    by_tests false true e f rest = absurd (true≢false f)
+    by_tests false false e f rest =
+        (λ h. let r = rest.0 h.1 in ((h.0, r.0), r.1), λ h. (h.0.0, rest.1 (h.0.1, h.1)))
+
 -- ---- what a number says, one test after the other: `FirstToHold` as the arguments of a function
 
 -- R follows where n's test is the first that holds

@@ -1,7 +1,7 @@
 -- The numbers of the refusals: "When an answer is an enum, a definition tells you this paper's number and values for each of its cases."
 use Rattle.std.specs.Prelude.{ℕ, Result, Ok, Err}
 use Rattle.refusal.specs.declared.Refusal.{Refusal}
-use Rattle.refusal.specs.declared.Refusal.TheVariants.{Dimension, Mass, Speed, Area, BufferLength, CellArea, HeadCount, NoMark, ClassInput, NoClass, MitigationDigit, FinalClass, TextLength, TextByte, FrameLength, NoFrontalArea, HeightOrBudget, BudgetSpent, NegativeSpeed}
+use Rattle.refusal.specs.declared.Refusal.TheVariants.{Dimension, Mass, Speed, Area, BufferLength, CellArea, HeadCount, NoMark, ClassInput, NoClass, MitigationDigit, FinalClass, TextLength, TextByte, FrameLength, NoFrontalArea, HeightOrBudget, BudgetSpent, NegativeSpeed, WantedColumn, NoneForColumn}
 
 abbrev pub number_of : Refusal → ℕ
 number_of Dimension = 1
@@ -23,6 +23,8 @@ number_of NoFrontalArea = 16
 number_of HeightOrBudget = 17
 number_of BudgetSpent = 18
 number_of NegativeSpeed = 19
+number_of WantedColumn = 20
+number_of NoneForColumn = 21
 
 -- the number of an answer, 0 where it is accepted
 abbrev pub number_in : {A : Type 0} → Result A Refusal → ℕ

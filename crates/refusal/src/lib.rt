@@ -26,6 +26,8 @@ pub enum Refusal {
     HeightOrBudget = 17,
     BudgetSpent = 18,
     NegativeSpeed = 19,
+    WantedColumn = 20,
+    NoneForColumn = 21,
 }
 
 impl From<Refusal> for u8 {

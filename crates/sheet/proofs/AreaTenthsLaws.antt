@@ -9,8 +9,8 @@ use Rattle.columns.specs.Bracket.{bracket, rounded_outward}
 use Rattle.columns.specs.declared.Bracket.{Bracket}
 use Rattle.sheet.specs.declared.Formula.{Formula}
 use Rattle.sheet.specs.declared.Formula.TheVariants.{Whole, SixTenths, GlideOnly}
-use Rattle.sheet.specs.Lines.{total_at, total_of, glide_only_at, area_of}
-use Rattle.sheet.specs.PrivateAreaTenths.{tenths, total_taken}
+use Rattle.sheet.specs.Lines.{total_at, total_of, glide_only_at, area_of, tenths}
+use Rattle.sheet.specs.PrivateAreaTenths.{total_taken}
 
 tenths_max : (f : Formula) → tenths f ≤ 10
 tenths_max Whole = lit≤ tt

@@ -7,7 +7,7 @@ use Rattle.sheet.specs.Ranges.{dimension_max, speed_max}
 use Rattle.sheet.specs.PrivateBounds.{a_max, glide_max, slide_max, total_max, AtMost}
 use Rattle.sheet.specs.Lines.{full_width, glide_of, run_of, saving_of, slide_of, total_at, total_of}
 
-run_max : (v : ℕ) → v ≤ speed_max → AtMost (run_of v) slide_max
+pub run_max : (v : ℕ) → v ≤ speed_max → AtMost (run_of v) slide_max
 unfolding run_of div_up
 run_max v h = omega (arith, mul-le-mul h h)
 

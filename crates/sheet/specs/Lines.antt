@@ -72,3 +72,10 @@ area_den GlideOnly = 200000
 unfoldable pub area_of : Formula → ℕ → Bracket → Bracket → Bracket
 area_of f a glide total =
     rounded_outward (area_num f a glide.low total.low) (area_num f a glide.high total.high) (area_den f)
+
+-- line 6 in another form, as `area_in_tenths` proves: so many tenths of a total, over 100,000. The total is T, and of GlideOnly it is T with the glide in
+-- the slide's place.
+abbrev pub tenths : Formula → ℕ
+tenths Whole = 10
+tenths SixTenths = 6
+tenths GlideOnly = 5

@@ -9,7 +9,9 @@ ghost use Rattle.sheet.specs.Sheet.{zero_sheet, sheet_answer, range_tests, sheet
 
 mod lines;
 
-use crate::lines::{GLIDE, area, run, saving, slide, total};
+// the numbers of the lines are said once: trade_off solves the lines by them
+pub use crate::lines::{CIRCLE_RATE, GLIDE, RUN_RATE, RUN_SCALE, SAVING_TIMES_MASS, TENTHS_SCALE};
+use crate::lines::{area, run, saving, slide, total};
 use columns::{Bracket, column_and_flag, size_column};
 use refusal::Refusal;
 

@@ -3,8 +3,8 @@ ghost use Rattle.std.specs.Prelude.{◌≡◌, cond, ◌+◌, ◌^◌, ◌≤◌
 ghost use Rattle.sheet.specs.Ranges.{dimension_max, speed_max};
 ghost use Rattle.columns.specs.Bracket.{rounded_outward};
 ghost use Rattle.sheet.specs.PrivateBounds.{a_max, glide_max, slide_max, total_max, AtMost};
-ghost use Rattle.sheet.specs.Lines.{full_width, glide_of, run_of, saving_of, slide_of, total_at, total_of, formula_of, area_of};
-ghost use Rattle.sheet.specs.PrivateAreaTenths.{tenths, total_taken};
+ghost use Rattle.sheet.specs.Lines.{full_width, glide_of, run_of, saving_of, slide_of, total_at, total_of, formula_of, area_of, tenths};
+ghost use Rattle.sheet.specs.PrivateAreaTenths.{total_taken};
 
 use crate::{Formula, PERSON_WIDTH};
 use columns::Bracket;
@@ -14,10 +14,27 @@ const WHOLE_ABOVE: u64 = 8_000;
 
 const SIX_TENTHS_ABOVE: u64 = 1_000;
 
-pub(crate) const GLIDE: Bracket = Bracket {
+pub const GLIDE: Bracket = Bracket {
     low: 2_570_666,
     high: 2_570_667,
 };
+
+// The run is the square of the speed times this rate, over the scale.
+pub const RUN_RATE: Bracket = Bracket {
+    low: 1_926_617_433,
+    high: 1_926_617_434,
+};
+
+pub const RUN_SCALE: u64 = 1_000_000_000;
+
+// The low saving is this over the mass, rounded down; the high one is one more than this, over the mass, rounded up.
+pub const SAVING_TIMES_MASS: u64 = 39_415_562_351;
+
+// The square of a times this is the circle's part of T.
+pub const CIRCLE_RATE: u64 = 785;
+
+// A tenth of a total over 100,000 is the total over this.
+pub const TENTHS_SCALE: u64 = 1_000_000;
 
 // A numerator's two ends over one denominator, the low one rounded down and the high one up.
 fn rounded(low: u64, high: u64, denominator: u64) -> Bracket
@@ -36,9 +53,9 @@ pub(crate) fn run(speed: u64) -> Bracket
     requires { speed ≤ speed_max }
     ensures { result ≡ run_of speed }
 {
-    let low = speed * speed * 1_926_617_433;
-    let high = speed * speed * 1_926_617_434;
-    rounded(low, high, 1_000_000_000)
+    let low = speed * speed * RUN_RATE.low;
+    let high = speed * speed * RUN_RATE.high;
+    rounded(low, high, RUN_SCALE)
 }
 
 pub(crate) fn saving(mass: u64) -> Bracket
@@ -46,7 +63,7 @@ pub(crate) fn saving(mass: u64) -> Bracket
     ensures { result ≡ saving_of mass }
 {
     // one division for both ends: a number that is one more, rounded up, is one more than the quotient
-    let low = 39_415_562_351 / mass;
+    let low = SAVING_TIMES_MASS / mass;
     Bracket { low, high: low + 1 }
 }
 
@@ -64,7 +81,7 @@ fn total_at(a: u64, glide: u64, slide: u64) -> u64
     requires { (a ≤ a_max) × (glide ≤ glide_max) × (slide ≤ slide_max) }
     ensures { result ≡ total_at a glide slide }
 {
-    a * (glide + slide + 785 * a)
+    a * (glide + slide + CIRCLE_RATE * a)
 }
 
 pub(crate) fn total(a: u64, slide: Bracket) -> Bracket
@@ -79,7 +96,7 @@ pub(crate) fn total(a: u64, slide: Bracket) -> Bracket
 // The formulas are compared and not matched: comparisons become conditional moves, where a match branches and takes a sheet from 23.5
 // to 23.9 ns.
 impl Formula {
-    fn of(dimension: u64) -> Formula
+    pub fn of(dimension: u64) -> Formula
         ensures { result ≡ formula_of dimension }
     {
         if WHOLE_ABOVE < dimension {
@@ -92,7 +109,7 @@ impl Formula {
     }
 
     // How many tenths of a total over 100,000 the area is.
-    fn tenths(self) -> u64
+    pub fn tenths(self) -> u64
         ensures { result ≡ tenths self }
     {
         if self == Formula::Whole {
@@ -117,7 +134,7 @@ impl Formula {
     }
 }
 
-// The three formulas as one, so that they share two divisions and the dimension chooses numbers, not code. A tenth over 100,000 is one over a million.
+// The three formulas as one, so that they share two divisions and the dimension chooses numbers, not code.
 pub(crate) fn area(dimension: u64, line5: Bracket) -> Bracket
     requires { (dimension ≤ dimension_max) × AtMost line5 total_max }
     ensures { result ≡ area_of (formula_of dimension) (full_width dimension) glide_of line5 }
@@ -125,5 +142,5 @@ pub(crate) fn area(dimension: u64, line5: Bracket) -> Bracket
     let formula = Formula::of(dimension);
     let tenths = formula.tenths();
     let taken = formula.total_taken(dimension, line5);
-    rounded(tenths * taken.low, tenths * taken.high, 1_000_000)
+    rounded(tenths * taken.low, tenths * taken.high, TENTHS_SCALE)
 }

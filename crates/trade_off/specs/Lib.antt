@@ -1,0 +1,4 @@
+pub mod TradeOff
+pub mod Promises
+pub mod PrivateGiven
+pub mod PrivateSolved
