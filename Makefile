@@ -24,7 +24,7 @@ CALLS = $(MADE)/calls
 SOURCES := crates.txt $(shell find crates -name out -prune -o \( -name '*.rt' -o -name '*.antt' \) -print)
 CARGO = cd console && cargo
 COMMA = ,
-FAULTS = a b c m t f r n p j o z d s v l e k g h i q w x H I Q W X
+FAULTS = a b c m t f r n p A B C D j o z d s v l e k g h i q w x y H I Q W X Y
 
 # Where the installed files stand. A space or another character that a shell or pkg-config takes apart is refused before anything is
 # made.
@@ -145,7 +145,7 @@ $(MADE)/boundary: console/tests/boundary.c $(HEADER) $(ARCHIVE)
 	$(CC) $(CFLAGS) -Iconsole/include console/tests/boundary.c $(ARCHIVE) -o $@
 
 $(MADE)/boundary-faults: console/tests/boundary.c console/tests/boundary_faults.c $(HEADER) $(ARCHIVE)
-	$(CC) $(CFLAGS) $(addprefix -Wl$(COMMA)--wrap=nb_,case high_angle descent greatest_speed greatest_mass) -Iconsole/include \
+	$(CC) $(CFLAGS) $(addprefix -Wl$(COMMA)--wrap=nb_,case sheet high_angle descent greatest_speed greatest_mass) -Iconsole/include \
 	    console/tests/boundary.c console/tests/boundary_faults.c $(ARCHIVE) -o $@
 
 # every lent buffer against unreadable memory on both sides, and NULL where nothing is lent

@@ -13,20 +13,20 @@ AIRCRAFT = (
     ("P1 to P6 of document 01", (
         (50, 50, 0), (1_000, 10_000, 2_500), (1_001, 10_000, 0),
         (3_000, 25_000, 3_500), (8_000, 50_000, 0), (8_001, 50_000, 0))),
-    ("up to 1,000 mm no mass and no speed makes a slide", (
-        (50, 25_000_000, 40_000), (1_000, 50, 0), (1_000, 25_000_000, 40_000))),
-    ("above both cuts, and at 8,000 mm, with slide", (
-        (1_001, 10_000, 2_500), (8_000, 50_000, 3_500), (8_001, 50_000, 3_500))),
+    ("below 1,000 mm no mass and no speed makes a slide", (
+        (50, 25_000_000, 40_000), (999, 50, 0), (999, 25_000_000, 40_000))),
+    ("at 1,000 mm without slide, below 8,000 mm without and with, at 8,000 mm with", (
+        (1_000, 10_000, 0), (7_999, 50_000, 0), (7_999, 50_000, 3_500), (8_000, 50_000, 3_500))),
     ("the last speed without slide and the first with", (
         (3_000, 10_000, 1_430), (3_000, 10_000, 1_431),
         (100_000, 50, 20_227), (100_000, 50, 20_228))),
     ("the ends of the ranges, as far as the area is accepted", (
-        (1_001, 50, 40_000), (8_000, 25_000_000, 40_000), (8_001, 50, 40_000),
+        (1_000, 50, 40_000), (7_999, 25_000_000, 40_000), (8_000, 50, 40_000),
         (20_356, 25_000_000, 40_000), (100_000, 50, 0), (100_000, 25_000_000, 17_118))),
 )
 
 HEAD = """\
--- The worked points, in lowest terms. checker/expectations writes this file, from document 01; it is never edited by hand.
+-- The worked points, in lowest terms. checker/expectations writes this file, from document 01 and document 02, item 6; it is never edited by hand.
 use Rattle.std.specs.Prelude.{List, [], ◌∷◌}
 use Rattle.arithmetic.specs.Fraction.{◌over◌}
 use Rattle.exact_area.specs.ExactPoint.{ExactPoint, point}

@@ -25,7 +25,7 @@ def text(aircraft, word, marks, people):
 
 
 def farmhouses():
-    """Document 01's P16: eight people on a hectare, one low M1(A) credit."""
+    """Document 01's P16, in column 2 by document 02 item 6: eight people on a hectare, one low M1(A) credit."""
     return text((1_000, 10_000, 2_500), 0x1000, block_of_marks(range(0, 1), range(0, 1)), {(0, 0): 8})
 
 

@@ -106,8 +106,10 @@ WHOLE, SIX_TENTHS, GLIDE_ONLY = "whole", "six tenths", "glide only"
 
 def area_formula(w):
     """Which of the three area formulas a dimension takes."""
-    # "w above 8,000"; "w above 1,000, up to 8,000"; "w up to 1,000"
-    return WHOLE if w > 8_000 else SIX_TENTHS if w > 1_000 else GLIDE_ONLY
+    # Document 02 item 6: "8 metres and above is the first case, below 1 metre is
+    #  the third. So 1,000 mm takes six tenths of the full formula and 8,000 mm
+    #  takes all of it."
+    return WHOLE if w >= 8_000 else SIX_TENTHS if w >= 1_000 else GLIDE_ONLY
 
 
 def exact_d(w):
@@ -227,13 +229,15 @@ def t_line(w, glide, slide):
 
 
 def area_line(w, glide, t):
-    # "6. Area in square centimetres, low rounded down and high rounded up"
+    # "6. Area in square centimetres, low rounded down and high rounded up".
+    #  Document 02 item 6 moves the cuts of this line, "above 8,000 mm" and "above
+    #  1,000 mm": they are those of area_formula.
     a, formula = full_width(w), area_formula(w)
     if formula == WHOLE:
-        # "T / 100,000 above 8,000 mm"
+        # "T / 100,000"
         low, high = Fraction(t.low, 100_000), Fraction(t.high, 100_000)
     elif formula == SIX_TENTHS:
-        # "3 × T / 500,000 above 1,000 mm"
+        # "3 × T / 500,000"
         low, high = Fraction(3 * t.low, 500_000), Fraction(3 * t.high, 500_000)
     else:
         # "otherwise (2 × a × glide + 785 × a × a) / 200,000."

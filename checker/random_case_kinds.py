@@ -17,7 +17,7 @@ class Field(NamedTuple):
 
 RANGED_FIELDS = {
     "dimension": Field("dimension", 1, g.DIMENSION_RANGE,
-                       (49, 50, 1_000, 1_001, 8_000, 8_001, 100_000, 100_001)),
+                       (49, 50, 999, 1_000, 1_001, 7_999, 8_000, 8_001, 100_000, 100_001)),
     "mass": Field("mass", 2, g.MASS_RANGE, (49, 50, 25_000_000, 25_000_001)),
     "speed": Field("speed", 3, g.SPEED_RANGE, (0, 40_000, 40_001)),
     "cell_area": Field("cell area", 6, g.CELL_AREA_RANGE, (99, 100, 25_000_000, 25_000_001)),
@@ -51,6 +51,7 @@ def promised_outcomes():
         yield f"printed, size column {column}", 50
     yield "printed, size column equal to the column", 50
     yield "printed, size column higher than the column", 50
+    yield "printed, size column lower than the column", 10
     for row in (1, 2, 3, 4, 5, 6, 7):
         yield f"printed, table row {row}", 10
     for column in (2, 3, 4, 5):
@@ -230,6 +231,8 @@ def sheet_kinds(found, answer):
         yield "printed, size column equal to the column"
     if sheet.size_column > sheet.column:
         yield "printed, size column higher than the column"
+    if 0 < sheet.size_column < sheet.column:
+        yield "printed, size column lower than the column"
     yield f"printed, table row {g.row_used(answer.footprint.row, found.fields.controlled)}"
     yield f"high area is {sheet.area.high:,}"
     if sheet.flag == 1:

@@ -19,7 +19,7 @@ CASES = 2_400
 
 # An aircraft for each of the columns 1 to 5: dimension, mass, speed.
 COLUMN_AIRCRAFT = (
-    (1_000, 10_000, 2_500),
+    (999, 10_000, 2_500),
     (3_000, 25_000, 3_500),
     (8_001, 50_000, 0),
     (20_000, 500_000, 6_000),
@@ -94,7 +94,7 @@ def offered_word(a, b, c, d):
 
 def plain_case(source):
     case = SimpleNamespace()
-    ranges = ((50, 1_000), (1_001, 8_000), (8_001, 20_000), (20_001, 100_000))
+    ranges = ((50, 999), (1_000, 7_999), (8_000, 20_000), (20_001, 100_000))
     case.dimension = source.between(*ranges[source.below(4)])
     ranges = ((50, 1_000), (1_001, 25_000), (25_001, 1_000_000), (1_000_001, 25_000_000))
     case.mass = source.between(*ranges[source.below(4)])

@@ -11,11 +11,11 @@ import ground_risk as g
 HERE = Path(__file__).parent
 U32 = 2 ** 32 - 1
 
-# P16, with document 02 item 1's "01 at P16" after the flag
+# P16, with document 02 item 1's "01 at P16" after the flag, and P2's area as item 6 has it: column 2, so its row 5, class 6
 FIELDS = g.Fields(dimension=1_000, mass=10_000, speed=2_500, cell_area=10_000, controlled=0, word=0x1000)
 LENT = g.Lent(counts=[8] + [0] * (g.PLACES - 1), marks=[1 << 63] + [0] * (g.ROWS - 1))
 TEXT = g.text_of_fields(FIELDS, LENT)
-FRAME = b"000000c7ea0000c7eb010001050000000000080504\n"
+FRAME = b"000001bf3e0001bf3f020001050000000000080605\n"
 
 # What the lent buffers hold before.
 OLD = g.Lent(*([7_000_000 - n for n in range(length)] for length in g.LENT_LENGTHS))
@@ -107,8 +107,8 @@ class ReadingTest(unittest.TestCase):
 
 
 class WritingTest(unittest.TestCase):
-    frame = g.Frame(low=51_178, high=51_179, column=1, flag=0, size_column=1, row_used=5, place=0,
-                    people=8, intrinsic=5, final_class=4)
+    frame = g.Frame(low=114_494, high=114_495, column=2, flag=0, size_column=1, row_used=5, place=0,
+                    people=8, intrinsic=6, final_class=5)
 
     def test_frame(self):
         self.assertEqual(g.write_frame(self.frame, bytes(g.FRAME_LENGTH)), (0, FRAME))
@@ -200,16 +200,16 @@ class CaseTest(unittest.TestCase):
     def test_row_used(self):
         # On controlled ground the frame shows row 1.
         self.assertEqual(g.case(text_with(controlled=1, word=0x0003), OLD, bytes(g.FRAME_LENGTH)).frame,
-                         b"000000c7ea0000c7eb0100010100000000000801ff\n")
+                         b"000001bf3e0001bf3f0200010100000000000801ff\n")
 
     def test_size_column(self):
-        # Both columns stand in the frame, and the classes are of the first: P5 over P16's cell, where
-        # size column 3 would give class 7 in place of 6 (480,997 is 000756e5).
-        self.assertEqual(g.case(text_with(dimension=8_000, mass=50_000, speed=0), OLD, bytes(g.FRAME_LENGTH)).frame,
-                         b"00000756e5000756e7020003050000000000080605\n")
-        # one centimetre a second more than the last pair has
-        self.assertEqual(g.case(text_with(speed=20_001), OLD, bytes(g.FRAME_LENGTH)).frame,
-                         b"000000c7ea0000c7eb010000050000000000080504\n")
+        # Both columns stand in the frame, and the classes are of the first: 7,999 mm, else as P5, over P16's cell, where
+        # size column 3 would give class 7 in place of 6 (480,901 is 00075685).
+        self.assertEqual(g.case(text_with(dimension=7_999, mass=50_000, speed=0), OLD, bytes(g.FRAME_LENGTH)).frame,
+                         b"000007568500075686020003050000000000080605\n")
+        # one centimetre a second more than the last pair has (51,140 is 0000c7c4)
+        self.assertEqual(g.case(text_with(dimension=999, speed=20_001), OLD, bytes(g.FRAME_LENGTH)).frame,
+                         b"000000c7c40000c7c5010000050000000000080504\n")
 
     def test_every_refusal_is_printed_or_15(self):
         self.assertEqual([g.printed_length(number) for number in (0, 15)], [g.FRAME_LENGTH, 0])

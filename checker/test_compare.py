@@ -250,6 +250,10 @@ class CallsTest(unittest.TestCase):
         self.assertIsNone(compare.as_text("intrinsic class", {"column": 1, "row": 2, "controlled": 0}))
         self.assertIsNone(compare.as_text("footprint", {"counts": [1], "marks": [0] * g.ROWS, "cell_area": 100}))
         self.assertEqual(compare.as_text("case", {"text": b"any"}), b"any")
+        # the highest table row is shown too, not refused
+        crowd = {"counts": [1_000_000] * g.PLACES, "marks": [1] * g.ROWS, "cell_area": 100}
+        shown = g.case(compare.as_text("footprint", crowd), g.zeros(), bytes(g.FRAME_LENGTH))
+        self.assertEqual((g.footprint(*crowd.values()).row, shown.refusal), (7, 0))
 
 
 class ProgramTest(unittest.TestCase):

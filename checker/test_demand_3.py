@@ -3,6 +3,7 @@
 import math
 import random
 import unittest
+from collections import Counter
 from fractions import Fraction
 
 import ground_risk as g
@@ -28,30 +29,31 @@ CIRCLE_PARTS = 785 * SHARED // 100_000
 
 def quick_exact_area(w, m, v):
     a = w + 600
-    if w <= 1000:
+    if w < 1000:
         return 2 * (10 * a * GLIDE_PARTS) + CIRCLE_PARTS * a * a, 2 * SHARED
     slide = max(0, RUN_PARTS * v * v * m - SAVING_PARTS)
     whole = 10 * a * (GLIDE_PARTS * m + slide) + CIRCLE_PARTS * a * a * m
-    if w <= 8000:
+    if w < 8000:
         return 3 * whole, 5 * SHARED * m
     return whole, SHARED * m
 
 
 def drawn_aircraft(source):
     """An aircraft from the whole of the ranges."""
-    low, high = ((50, 1_000), (1_001, 8_000), (8_001, 100_000))[source.randrange(3)]
+    low, high = ((50, 999), (1_000, 7_999), (8_000, 100_000))[source.randrange(3)]
     w = source.randint(low, high)
     m = int(50 * (500_000 ** source.random()))
     v = int(40_000 * source.random() ** 2)
     return w, m, v
 
 
-def tuned_aircraft(source):
+def tuned_aircraft(source, w=None):
     """An aircraft whose area is close to a limit, by choice of the mass."""
-    w = source.randint(1_001, 8_000) if source.random() < 0.6 else source.randint(8_001, 100_000)
+    if w is None:
+        w = source.randint(1_000, 7_999) if source.random() < 0.6 else source.randint(8_000, 100_000)
     limit = g.AREA_LIMITS[source.randrange(5)]
     a = w + 600
-    t = limit * 100_000 if w > 8000 else limit * 500_000 / 3
+    t = limit * 100_000 if w >= 8000 else limit * 500_000 / 3
     slide = (t - 785 * a * a) / a - 2_570_666.5
     if slide < 0:
         return drawn_aircraft(source)
@@ -72,6 +74,9 @@ def aircraft_of_the_million():
             yield tables[number]
         elif number % 3 == 0:
             yield drawn_aircraft(source)
+        elif number % 30 == 1:
+            # where a formula begins
+            yield tuned_aircraft(source, source.choice((1_000, 8_000)))
         else:
             yield tuned_aircraft(source)
 
@@ -90,10 +95,42 @@ class QuickAreaTest(unittest.TestCase):
         sample = [row[2:] for row in FLAGGED + AT_LIMITS]
         sample += [drawn_aircraft(source) for _ in range(5_000)]
         sample += [tuned_aircraft(source) for _ in range(5_000)]
+        sample += [tuned_aircraft(source, w) for w in (999, 1_000, 7_999, 8_000) for _ in range(500)]
         for w, m, v in sample:
             numerator, denominator = quick_exact_area(w, m, v)
             self.assertGreater(denominator, 0)
             self.assertEqual(Fraction(numerator, denominator), g.exact_area(w, m, v))
+
+
+class WidthTest(unittest.TestCase):
+    """Low and high "differ by at most 7 square centimetres, and by at most 2 where the aircraft's dimension is 8 metres or less".
+    Document 02 item 6: "The accuracy widths don't move". So 2 is for 8,000 mm too, which now takes the whole formula."""
+
+    def test_at_8_metres(self):
+        source = random.Random(SEED + 3)
+        sample = [drawn_aircraft(source) for _ in range(20_000)] + [tuned_aircraft(source, 8_000) for _ in range(20_000)]
+        widths = Counter()
+        for _, m, v in sample:
+            sheet = g.sheet(8_000, m, v)
+            numerator, denominator = quick_exact_area(8_000, m, v)
+            self.assertTrue(sheet.area.low * denominator <= numerator <= sheet.area.high * denominator)
+            widths[sheet.area.high - sheet.area.low] += 1
+        self.assertEqual(set(widths), {1, 2})
+        self.assertGreater(min(widths.values()), 3_000)
+
+    def test_two_at_8_metres(self):
+        # a × (glide + slide) is 8,600 × 68,825,174 and 8,600 × 68,825,177, and with 58,058,600,000 T / 100,000 is 6,499,550.96 and
+        # 6,499,551.22: a whole number lies between.
+        self.assertEqual(g.sheet(8_000, 50_000, 5_899)[4:7],
+                         ((66_254_508, 66_254_510), (649_955_096_400, 649_955_122_200), (6_499_550, 6_499_552)))
+
+    def test_never_more_at_8_metres(self):
+        # The runs differ by at most 3 and the savings by 1, so the slides by at most 4, and with the glides T by at most 5 × 8,600. That
+        # is 0.43 square centimetres of the whole formula: no two whole numbers lie between.
+        self.assertEqual(max(high - low for low, high in map(g.run_line, range(40_001))), 3)
+        # 39,415,562,351 is q × m and a rest below m: over m it is q, rounded down, and one more is q + 1, rounded up
+        self.assertEqual({high - low for low, high in map(g.saving_line, (*range(50, 20_000), 25_000_000))}, {1})
+        self.assertLess(5 * g.full_width(8_000), 100_000)
 
 
 class WorkingsTest(unittest.TestCase):
@@ -134,7 +171,7 @@ class WorkingsTest(unittest.TestCase):
 class MillionTest(unittest.TestCase):
     def test_demand_3(self):
         refused = 0
-        flagged = {}
+        flagged, by_dimension = Counter(), Counter()
         for w, m, v in aircraft_of_the_million():
             sheet = g.sheet(w, m, v)
             numerator, denominator = quick_exact_area(w, m, v)
@@ -148,6 +185,7 @@ class MillionTest(unittest.TestCase):
             low, high = sheet.area
             if not low * denominator <= numerator <= high * denominator:
                 self.fail(f"exact area outside low and high at {w, m, v}")
+            # "at most 2 where the aircraft's dimension is 8 metres or less"
             if high - low > (2 if w <= 8000 else 7):
                 self.fail(f"low and high too far apart at {w, m, v}")
             column = sheet.column
@@ -161,12 +199,18 @@ class MillionTest(unittest.TestCase):
             if sheet.flag == 1:
                 if column - exact not in (0, 1):
                     self.fail(f"flagged, two columns off at {w, m, v}")
-                flagged[column, exact] = flagged.get((column, exact), 0) + 1
+                flagged[column, exact] += 1
+                by_dimension[w, column, exact] += 1
         # The million has all that it is meant to have.
         self.assertGreater(refused, 10_000)
         for column in (2, 3, 4, 5):
             self.assertGreater(flagged[column, column], 500)
             self.assertGreater(flagged[column, column - 1], 500)
+        # and where a formula begins
+        for w, columns in ((1_000, (2, 3, 4)), (8_000, (4, 5))):
+            for column in columns:
+                self.assertGreater(by_dimension[w, column, column], 100)
+                self.assertGreater(by_dimension[w, column, column - 1], 100)
 
 
 if __name__ == "__main__":

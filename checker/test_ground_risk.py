@@ -52,12 +52,13 @@ class RefusalsTest(unittest.TestCase):
 
 class SheetTest(unittest.TestCase):
     def test_papers_cases(self):
+        # P2 and P5 as document 02 item 6 has them worked again, by hand below
         table = (
             ("P1", (50, 50, 0), (18_367, 18_368), 1),
-            ("P2", (1_000, 10_000, 2_500), (51_178, 51_179), 1),
+            ("P2", (1_000, 10_000, 2_500), (114_494, 114_495), 2),
             ("P3", (1_001, 10_000, 0), (36_766, 36_767), 1),
             ("P4", (3_000, 25_000, 3_500), (592_295, 592_296), 2),
-            ("P5", (8_000, 50_000, 0), (480_997, 480_999), 2),
+            ("P5", (8_000, 50_000, 0), (801_663, 801_664), 3),
             ("P6", (8_001, 50_000, 0), (801_824, 801_825), 3),
         )
         for mark, aircraft, area, column in table:
@@ -69,10 +70,26 @@ class SheetTest(unittest.TestCase):
         self.assertEqual(g.sheet(100_000, 25_000_000, 40_000), g.refused_sheet(4))  # P8
 
     def test_lines_by_hand_small(self):
-        # All six lines stand at 1,000 mm, though the area uses no slide.
+        # All six lines stand at 999 mm, though the area uses no slide. a is 1,599, 785 × a × a 2,007,088,785;
+        # 2 × a × glide is 8,220,989,868 and 8,220,993,066. The sums / 200,000: 51,140.393 and 51,140.409.
+        self.assertEqual(g.sheet(999, 10_000, 2_500), g.Sheet(
+            0, (2_570_666, 2_570_667), (12_041_358, 12_041_359), (3_941_556, 3_941_557),
+            (8_099_801, 8_099_803), (19_069_165_518, 19_069_170_315), (51_140, 51_141), 1, 0, 1))
+
+    def test_lines_by_hand_p2(self):
+        # Run: v × v is 6,250,000, so 12,041,358.956 and 12,041,358.963. Saving: 3,941,556.2 both times.
+        # Slide: 12,041,358 - 3,941,557 and 12,041,359 - 3,941,556. a is 1,600, 785 × a × a 2,009,600,000;
+        # a × (glide + slide) is 17,072,747,200 and 17,072,752,000. 3 × T / 500,000: 114,494.083 and 114,494.112.
         self.assertEqual(g.sheet(1_000, 10_000, 2_500), g.Sheet(
             0, (2_570_666, 2_570_667), (12_041_358, 12_041_359), (3_941_556, 3_941_557),
-            (8_099_801, 8_099_803), (19_082_347_200, 19_082_352_000), (51_178, 51_179), 1, 0, 1))
+            (8_099_801, 8_099_803), (19_082_347_200, 19_082_352_000), (114_494, 114_495), 2, 0, 1))
+
+    def test_lines_by_hand_p5(self):
+        # At rest no run and no slide. Saving: 788,311.2 both times. a is 8,600, 785 × a × a 58,058,600,000;
+        # a × glide is 22,107,727,600 and 22,107,736,200. T / 100,000: 801,663.276 and 801,663.362.
+        self.assertEqual(g.sheet(8_000, 50_000, 0), g.Sheet(
+            0, (2_570_666, 2_570_667), (0, 0), (788_311, 788_312), (0, 0),
+            (80_166_327_600, 80_166_336_200), (801_663, 801_664), 3, 0, 3))
 
     def test_lines_by_hand_middle(self):
         self.assertEqual(g.sheet(3_000, 25_000, 3_500), g.Sheet(
@@ -124,14 +141,6 @@ class SheetTest(unittest.TestCase):
                 else:
                     self.assertIn(sheet.column, (1, 2, 3, 4, 5))
 
-    def test_area_changes_at_the_formula_edges(self):
-        # Up to 1,000 mm speed and mass make no difference to the area.
-        self.assertEqual(g.sheet(1_000, 50, 0).area, g.sheet(1_000, 25_000_000, 40_000).area)
-        self.assertNotEqual(g.sheet(1_001, 50, 0).area, g.sheet(1_001, 25_000_000, 40_000).area)
-        # 8,001 has five thirds of what 8,000 has, about.
-        self.assertAlmostEqual(g.exact_area(8_001, 50, 0) / g.exact_area(8_000, 50, 0) * 3 / 5,
-                               1, places=3)
-
     def test_exact_area(self):
         # P1 by hand: D = 0.325; 2 × D × 1.8 / tan + half of 3.14 × D².
         by_hand = (2 * Fraction(325, 1000) * Fraction(18, 10) / Fraction(7002075382, 10 ** 10)
@@ -158,6 +167,18 @@ class SheetTest(unittest.TestCase):
                          - Fraction(1, 2) * friction * gravity * safe_time ** 2)
                 self.assertEqual(g.exact_slide(m, v), slide if safe_time >= 0 else 0)
 
+    def test_exact_area_at_the_cuts(self):
+        # P2's mass and speed, in metres: 58 is 580 / 10, 2 × 0.75 × 9.81 is 14.715.
+        glide = Fraction(18, 10) / Fraction("0.7002075382")
+        slide = ((Fraction("0.65") * Fraction("0.8191520443") * 25) ** 2 - 58) / Fraction("14.715")
+        for w, by_hand in (
+                (999, 2 * Fraction("0.7995") * glide + Fraction("1.57") * Fraction("0.7995") ** 2),
+                (1_000, Fraction("0.6") * (2 * Fraction("0.8") * (glide + slide) + Fraction("3.14") * Fraction("0.64"))),
+                (7_999, Fraction("0.6") * (2 * Fraction("4.2995") * (glide + slide)
+                                           + Fraction("3.14") * Fraction("4.2995") ** 2)),
+                (8_000, 2 * Fraction("4.3") * (glide + slide) + Fraction("3.14") * Fraction("18.49"))):
+            self.assertEqual(g.exact_area(w, 10_000, 2_500), 10_000 * by_hand, w)
+
     def test_column_limits(self):
         for column in (1, 2, 3, 4, 5):
             limit = g.AREA_LIMITS[column - 1]
@@ -171,15 +192,20 @@ class SheetTest(unittest.TestCase):
             sheet = g.sheet(w, m, v)
             self.assertEqual((sheet.refusal, sheet.column, sheet.flag, g.exact_column(w, m, v)),
                              (0, column, 1, exact))
-            kinds.add((column, column - exact, 1 if w <= 1_000 else 2 if w <= 8_000 else 3))
+            kinds.add((column, column - exact, 1 if w < 1_000 else 2 if w < 8_000 else 3))
         self.assertEqual(kinds, {(2, 0, 2), (2, 1, 2), (3, 0, 2), (3, 1, 2),
                                  (4, 0, 2), (4, 1, 2), (4, 0, 3), (4, 1, 3),
                                  (5, 0, 2), (5, 1, 2), (5, 0, 3), (5, 1, 3)})
+        # the first dimension of both ranges in all of its kinds
+        for w, columns in ((1_000, (2, 3, 4)), (8_000, (4, 5))):
+            self.assertEqual({(column, column - exact) for column, exact, dimension, *_ in FLAGGED if dimension == w},
+                             {(column, lower) for column in columns for lower in (0, 1)})
 
     def test_no_other_kind_of_flag_exists(self):
         # Areas grow with the slide, and with the dimension within a formula range.
-        self.assertEqual(g.sheet(1_000, 25_000_000, 40_000).column, 1)
-        self.assertGreater(g.sheet(8_001, 50, 0).area.low, g.AREA_LIMITS[1])
+        self.assertEqual(g.sheet(999, 25_000_000, 40_000).column, 1)
+        self.assertEqual(g.sheet(1_000, 25_000_000, 40_000).column, 4)
+        self.assertGreater(g.sheet(8_000, 50, 0).area.low, g.AREA_LIMITS[1])
 
     def test_at_limits(self):
         for limit, kind, w, m, v in AT_LIMITS:
@@ -203,6 +229,64 @@ class SheetTest(unittest.TestCase):
                     self.assertEqual(sheet, g.refused_sheet(4))
                     self.assertLessEqual(g.exact_area(w, m, v), limit)
                     self.assertGreater(g.exact_area(w, m, v), limit - 7)
+
+
+class CutsTest(unittest.TestCase):
+    """Document 02 item 6."""
+
+    def test_formulas(self):
+        # every dimension, in metres: "8 metres and above is the first case, below 1 metre is the third"
+        for w in range(50, 100_001):
+            metres = Fraction(w, 1000)
+            self.assertEqual(g.area_formula(w), g.WHOLE if not metres < 8 else g.GLIDE_ONLY if metres < 1 else g.SIX_TENTHS)
+
+    def test_areas_by_hand(self):
+        # P2's mass and speed on both sides of both cuts. Glide and slide are 10,670,467 and 10,670,470.
+        for w, area in (
+                (999, (51_140, 51_141)),        # as above, without slide
+                (1_000, (114_494, 114_495)),    # as above, six tenths
+                # six tenths: a is 8,599, T 149,800,444,518 and 149,800,470,315; 3 × T / 500,000: 898,802.67 and .82
+                (7_999, (898_802, 898_803)),
+                # the whole: a is 8,600, T 149,824,616,200 and 149,824,642,000; T / 100,000: 1,498,246.16 and .42
+                (8_000, (1_498_246, 1_498_247))):
+            self.assertEqual(g.sheet(w, 10_000, 2_500).area, area)
+            self.assertTrue(area[0] <= g.exact_area(w, 10_000, 2_500) <= area[1], w)
+
+    def test_no_slide_below_1_metre(self):
+        # speed and mass make no difference to the area, though they do to the slide
+        for w in (50, 500, 998, 999):
+            slow, fast = ((w, 50, 0), (w, 25_000_000, 40_000))
+            self.assertEqual((g.sheet(*slow).area, g.exact_area(*slow)), (g.sheet(*fast).area, g.exact_area(*fast)))
+            self.assertLess(g.sheet(*slow).slide, g.sheet(*fast).slide)
+        # from 1,000 mm up they do, with one cm/s
+        for w in (1_000, 7_999, 8_000):
+            self.assertLess(g.sheet(w, 10_000, 2_499).area.high, g.sheet(w, 10_000, 2_500).area.low)
+            self.assertLess(g.exact_area(w, 10_000, 2_499), g.exact_area(w, 10_000, 2_500))
+
+    def test_six_tenths_below_8_metres(self):
+        # 8,000 mm has five thirds of what 7,999 mm has, and hardly more
+        for m, v in ((50, 0), (10_000, 2_500), (25_000_000, 40_000)):
+            whole, tenths = g.exact_area(8_000, m, v), g.exact_area(7_999, m, v)
+            self.assertLess(5 * tenths, 3 * whole)
+            self.assertAlmostEqual(whole / tenths * 3 / 5, 1, places=3)
+            # 1,001 mm has hardly more than 1,000 mm
+            self.assertAlmostEqual(g.exact_area(1_001, m, v) / g.exact_area(1_000, m, v), 1, places=2)
+
+    def test_the_area_does_not_always_grow_with_the_dimension(self):
+        # At rest 999 mm has more: all of the glide, half of the circle. 1,000 mm: T is 1,600 × glide and 2,009,600,000,
+        # 3 × T / 500,000 36,735.994 and 36,736.003.
+        self.assertEqual([g.sheet(w, 10_000, 0).area for w in (999, 1_000)], [(51_140, 51_141), (36_735, 36_737)])
+        # "compare P2 and P3"
+        self.assertGreater(g.sheet(1_000, 10_000, 2_500).area.low, g.sheet(1_001, 10_000, 0).area.high)
+        # with P2's slide it does grow there, and at 8 metres at every speed
+        self.assertLess(g.sheet(999, 10_000, 2_500).area.high, g.sheet(1_000, 10_000, 2_500).area.low)
+        for v in (0, 2_500, 40_000):
+            self.assertLess(g.sheet(7_999, 10_000, v).area.high, g.sheet(8_000, 10_000, v).area.low)
+
+    def test_columns_on_both_sides(self):
+        for w, columns in (
+                (999, (1, 1, 1, 1)), (1_000, (1, 2, 3, 4)), (7_999, (2, 3, 3, 5)), (8_000, (3, 3, 4, 5))):
+            self.assertEqual(tuple(g.sheet(w, 10_000, v).column for v in (0, 2_500, 7_500, 40_000)), columns, w)
 
 
 class SizeColumnTest(unittest.TestCase):
@@ -405,18 +489,23 @@ class MitigationTest(unittest.TestCase):
 
 
 class AssessmentTest(unittest.TestCase):
-    small = (1_000, 10_000, 2_500)
+    # columns 1 and 3
+    small = (999, 10_000, 2_500)
     large = (8_001, 50_000, 0)
 
     def test_answer(self):
+        # P16, with column 2 since document 02 item 6: row 5 of it is 6
+        p2 = (1_000, 10_000, 2_500)
+        answer = g.assessment(*p2, some_counts(p0=8), one_cell(0), 10_000, 0, 0x1000)
+        self.assertEqual(answer, (0, g.sheet(*p2), (0, 5, 0, 8, 1), 5, 6, 5))
         answer = g.assessment(*self.small, some_counts(p0=8), one_cell(0), 10_000, 0, 0x1000)
         self.assertEqual(answer, (0, g.sheet(*self.small), (0, 5, 0, 8, 1), 5, 5, 4))
         answer = g.assessment(*self.small, some_counts(p0=8), one_cell(0), 10_000, 1, 0)
         self.assertEqual(answer, (0, g.sheet(*self.small), (0, 5, 0, 8, 1), 1, 1, 1))
 
     def test_the_class_comes_from_the_area(self):
-        # P5: column 2 by its area, size column 3
-        aircraft = (8_000, 50_000, 0)
+        # one millimetre less than P5: column 2 by its area, size column 3
+        aircraft = (7_999, 50_000, 0)
         self.assertEqual((g.sheet(*aircraft).column, g.sheet(*aircraft).size_column), (2, 3))
         houses = (some_counts(p0=8), one_cell(0), 10_000)
         for controlled, word, classes in (
@@ -424,8 +513,12 @@ class AssessmentTest(unittest.TestCase):
                 (1, 0x0000, (1, 1, 1)),     # row 1: 1, not 2
                 (0, 0x2310, (5, 6, 1))):    # five credits down to the floor 1, not 2
             self.assertEqual(g.assessment(*aircraft, *houses, controlled, word)[3:], classes)
+        # P2 the other way round, column 2 and size column 1: row 5 of column 1 is 5
+        aircraft = (1_000, 10_000, 2_500)
+        self.assertEqual((g.sheet(*aircraft).column, g.sheet(*aircraft).size_column), (2, 1))
+        self.assertEqual(g.assessment(*aircraft, *houses, 0, 0)[3:], (5, 6, 6))
         # no pair is large enough, and there is a class all the same: column 1 and 5 of row 5
-        self.assertEqual(g.assessment(1_000, 10_000, 20_001, *houses, 0, 0)[3:], (5, 5, 5))
+        self.assertEqual(g.assessment(999, 10_000, 20_001, *houses, 0, 0)[3:], (5, 5, 5))
         self.assertEqual(g.assessment(100_000, 50, 0, *houses, 0, 0x2000)[3:], (5, 9, 7))
 
     def test_first_refusal(self):

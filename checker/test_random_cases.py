@@ -99,8 +99,8 @@ class SourceTest(unittest.TestCase):
         self.assertEqual(r.Source(0).below(4), 2)
         self.assertEqual(r.Source(0).draw_32(), 15_470 * 65_536 + 18_256)
         self.assertEqual(r.Source(0).draw_64() >> 32, 15_470 * 65_536 + 18_256)
-        self.assertEqual(r.Source(0).between(50, 1_000),
-                         50 + (15_470 * 65_536 + 18_256) % 951)
+        self.assertEqual(r.Source(0).between(50, 999),
+                         50 + (15_470 * 65_536 + 18_256) % 950)
         self.assertEqual(r.Source(1).x, 2_654_435_761)
         self.assertEqual(r.Source(2).x, 2 * 2_654_435_761 - 2 ** 32)
 
@@ -147,7 +147,7 @@ class ExamplesTest(unittest.TestCase):
         for name, text in example_cases.EXAMPLES.items():
             self.assertEqual((HERE.parent / "examples" / f"{name}.case").read_bytes(), text())
         self.assertEqual(case_program.frame_of(example_cases.farmhouses()),
-                         b"000000c7ea0000c7eb010001050000000000080504\n")
+                         b"000001bf3e0001bf3f020001050000000000080605\n")
         self.assertEqual(case_program.frame_of(example_cases.refused()), b"0c\n")
         self.assertEqual(g.sheet(2_974, 20_005, 3_737).column, 3)
         self.assertEqual(g.sheet(2_974, 20_005, 3_737).flag, 1)

@@ -11,7 +11,7 @@ from pathlib import Path
 import ground_risk as g
 import trade_off_aircraft
 import trade_off_tables
-from trade_off_aircraft import FASTEST, LARGEST, LAST, NEXT, NO_SLIDE, SLOWEST
+from trade_off_aircraft import FASTEST, LARGEST, LAST, LAST_WITHOUT_SLIDE, NEXT, NO_SLIDE, SLOWEST
 
 ROOT = Path(__file__).resolve().parent.parent
 U32 = 2 ** 32 - 1
@@ -190,7 +190,7 @@ class RefusalsTest(unittest.TestCase):
     def order(self, operation, second, numbers, aircraft):
         """Each set of refusals that can hold together: the first is given, and the number is zero. The aircraft is that of dimension
         and number with the least number of those that are asked for: where it doesn't pass, none does."""
-        dimensions = {(): (50, 1_000, 1_001, 88_774, 100_000), (1,): (0, 49, 100_001, U32)}
+        dimensions = {(): (50, 999, 1_000, 88_774, 100_000), (1,): (0, 49, 100_001, U32)}
         columns = {(): COLUMNS, (20,): (0, 6, 255)}
         seen = set()
         for (first, w), (given, number), (third, column) in product(*(
@@ -221,17 +221,17 @@ class RefusalsTest(unittest.TestCase):
 
 class NamedEdgesTest(unittest.TestCase):
     def test_only_50_grams_pass(self):
-        # At 1,001 mm a is 1,601: 3 × T is at most 32,500,000,000, T at most 10,833,333,333. 785 × a × a is 2,012,112,785. What is left
-        # for each of a is 5,509,819, less the glide 2,939,152. At 20,262 cm/s the run is 790,970,175.04, up: 790,970,176. So the saving
-        # must be 788,031,024: that of 50 g is 788,311,247, that of 51 g 772,854,163.
+        # At 1,000 mm a is 1,600: 3 × T is at most 32,500,000,000, T at most 10,833,333,333. 785 × a × a is 2,009,600,000. What is left
+        # for each of a is 5,514,833, less the glide 2,944,166. At 20,262 cm/s the run is 790,970,175.04, up: 790,970,176. So the saving
+        # must be 788,026,010: that of 50 g is 788,311,247, that of 51 g 772,854,163.
         self.assertEqual((g.run_line(20_262).high, g.saving_line(50).low, g.saving_line(51).low), (790_970_176, 788_311_247, 772_854_163))
-        self.assertEqual(g.greatest_mass(1_001, 20_262, 1), (0, 50))
-        self.assertEqual(g.greatest_speed(1_001, 51, 1), (0, 20_066))
-        # The run may be 788,311,247 + 2,939,152 = 791,250,399: at 20,265 it's 791,204,416, at 20,266 791,282,503.
-        self.assertEqual([g.greatest_mass(1_001, v, 1) for v in (20_263, 20_264, 20_265, 20_266, 20_267, 40_000)],
+        self.assertEqual(g.greatest_mass(1_000, 20_262, 1), (0, 50))
+        self.assertEqual(g.greatest_speed(1_000, 51, 1), (0, 20_066))
+        # The run may be 788,311,247 + 2,944,166 = 791,255,413: at 20,265 it's 791,204,416, at 20,266 791,282,503.
+        self.assertEqual([g.greatest_mass(1_000, v, 1) for v in (20_263, 20_264, 20_265, 20_266, 20_267, 40_000)],
                          [(0, 50)] * 3 + [(21, 0)] * 3)
-        self.assertEqual(g.greatest_speed(1_001, 50, 1), (0, 20_265))
-        self.assertEqual([high_area(1_001, 50, v) for v in (20_262, 20_265, 20_266)], [62_309, 64_559, 65_309])
+        self.assertEqual(g.greatest_speed(1_000, 50, 1), (0, 20_265))
+        self.assertEqual([high_area(1_000, 50, v) for v in (20_262, 20_265, 20_266)], [62_262, 64_511, 65_261])
 
     def test_50_grams_alone_or_none(self):
         for column, w, v in FASTEST:
@@ -258,14 +258,16 @@ class NamedEdgesTest(unittest.TestCase):
             self.assertEqual(g.sheet(w, m, speed + 1).refusal, 4 if speed < 40_000 else 3)
 
     def test_every_speed_passes(self):
-        for w, m, column in ((1_001, 25_000_000, 4), (2_000, 50, 4), (8_000, 25_000_000, 5), (20_357, 1_891_341, 5), (20_361, 64_001, 5)):
+        for w, m, column in ((1_000, 25_000_000, 4), (2_000, 50, 4), (7_999, 25_000_000, 5), (8_000, 25_000_000, 5), (20_357, 1_891_341, 5),
+                             (20_361, 64_001, 5)):
             self.assertEqual(g.greatest_speed(w, m, column), (0, 40_000))
             self.assertEqual(g.sheet(w, m, 40_000).refusal, 0)
             # the range ends it, not the sheet
             self.assertEqual(g.sheet(w, m, 40_001), g.refused_sheet(3))
 
     def test_every_mass_passes(self):
-        for w, v, column in ((1_001, 1_235, 1), (1_822, 36, 1), (8_000, 1_304, 2), (26_584, 36, 3), (88_773, 32, 4), (100_000, 17_118, 5)):
+        for w, v, column in ((1_000, 1_236, 1), (1_822, 36, 1), (7_999, 1_304, 2), (8_000, 5_864, 3), (26_584, 36, 3), (88_773, 32, 4),
+                             (100_000, 17_118, 5)):
             self.assertEqual(g.greatest_mass(w, v, column), (0, 25_000_000))
             self.assertLess(g.greatest_mass(w, v + 1, column).mass, 25_000_000)
             self.assertEqual(g.sheet(w, 25_000_001, v), g.refused_sheet(2))
@@ -275,10 +277,11 @@ class NamedEdgesTest(unittest.TestCase):
             for column in COLUMNS:
                 self.assertEqual({g.greatest_speed(w, m, column) for m in (50, 1_000, 25_000_000)}, {(0, 40_000)})
                 self.assertEqual({g.greatest_mass(w, v, column) for v in (0, 2_500, 40_000)}, {(0, 25_000_000)})
-        # at the cut itself, as the sheet has it
-        self.assertEqual(g.area_formula(1_000), g.GLIDE_ONLY)
-        self.assertEqual((g.greatest_speed(1_000, 25_000_000, 1), g.greatest_mass(1_000, 40_000, 1)), ((0, 40_000), (0, 25_000_000)))
-        self.assertEqual((g.greatest_speed(1_001, 25_000_000, 1), g.greatest_mass(1_001, 40_000, 1)), ((0, 1_235), (21, 0)))
+        # at the cut itself the slide counts: column 4 is the first that takes them all
+        self.assertEqual([g.greatest_speed(1_000, 25_000_000, column) for column in COLUMNS],
+                         [(0, 1_236), (0, 5_758), (0, 18_693), (0, 40_000), (0, 40_000)])
+        self.assertEqual([g.greatest_mass(1_000, 40_000, column) for column in COLUMNS],
+                         [(21, 0), (21, 0), (21, 0), (0, 25_000_000), (0, 25_000_000)])
 
     def test_not_even_at_rest(self):
         # a is 2,422: 6,226,155,474 + 4,604,875,940 are 10,831,031,414, and 3 × that / 500,000 is 64,986.2;
@@ -326,6 +329,22 @@ class ByHandTest(unittest.TestCase):
         self.assertEqual([(high_t(3_000, m, 3_800), high_area(3_000, m, 3_800)) for m in (12_615, 12_616)],
                          [(108_333_086_400, 649_999), (108_333_979_200, 650_004)])
 
+    def test_1_metre(self):
+        # P2's dimension, mass and speed. a is 1,600, 785 × a × a 2,009,600,000. Column 1: T is at most 10,833,333,333, the slide
+        # 2,944,166. The saving is 3,941,556: run at most 6,885,722. 1,890²: 3,572,100, run 6,882,071; 1,891²: 3,575,881, run 6,889,355.
+        self.assertEqual(g.greatest_speed(1_000, 10_000, 1), (0, 1_890))
+        self.assertEqual([(high_t(1_000, 10_000, v), high_area(1_000, 10_000, v)) for v in (1_890, 1_891)],
+                         [(10_827_491_200, 64_965), (10_839_145_600, 65_035)])
+        # The run is 12,041,359, so the saving at least 9,097,193; 39,415,562,351 / 9,097,193 is 4,332.7.
+        self.assertEqual(g.greatest_mass(1_000, 2_500, 1), (0, 4_332))
+        self.assertEqual([high_area(1_000, m, 2_500) for m in (4_332, 4_333)], [64_986, 65_006])
+        # Column 2: T is at most 108,333,333,333, the slide 63,881,666, the run 67,823,222. 5,933²: 35,200,489, run 67,817,876;
+        # 5,934²: 35,212,356, run 67,840,739.
+        self.assertEqual(g.greatest_speed(1_000, 10_000, 2), (0, 5_933))
+        self.assertEqual([high_area(1_000, 10_000, v) for v in (5_933, 5_934)], [649_949, 650_169])
+        # and 12,041,359 is less than the slide: every mass
+        self.assertEqual(g.greatest_mass(1_000, 2_500, 2), (0, 25_000_000))
+
     def test_1_500_millimetres_in_column_1(self):
         # a is 2,100, 785 × a × a 3,461,850,000; T is at most 10,833,333,333, the slide 939,563. The saving of 10,000 g is 3,941,556:
         # run at most 4,881,119. 1,591²: 2,531,281, run 4,876,811; 1,592²: 2,534,464, run 4,882,943.
@@ -348,21 +367,28 @@ class ByHandTest(unittest.TestCase):
         self.assertEqual(g.greatest_mass(20_000, 12_000, 4), (0, 25_000_000))
 
     def test_on_both_sides_of_a_cut(self):
-        # 7,999 mm: a is 8,599, T at most 1,083,333,333,333, the slide 116,662,759. 8,001 mm: a is 8,601, T at most 650,000,000,000, the
-        # slide 66,250,155. The saving is 788,311, the run at most 117,451,070 and 67,038,466; 7,807²: 60,949,249, run 117,425,886;
-        # 7,808²: 60,964,864, run 117,455,970; 5,898²: 34,786,404, run 67,020,093; 5,899²: 34,798,201, run 67,042,821.
-        self.assertEqual([g.greatest_speed(w, 50_000, 3) for w in (7_999, 8_001)], [(0, 7_807), (0, 5_898)])
-        self.assertEqual([high_area(8_001, 50_000, v) for v in (5_898, 5_899)], [6_498_420, 6_500_375])
-        # on both sides of 1 metre the wider one is slower: below there is no slide
-        self.assertEqual([g.greatest_speed(w, 25_000, 1) for w in (999, 1_001)], [(0, 40_000), (0, 1_530)])
+        # 7,999 mm: a is 8,599, T at most 1,083,333,333,333, the slide 116,662,759. 8,000 mm: a is 8,600, T at most 650,000,000,000, the
+        # slide 66,259,728. The saving is 788,311, the run at most 117,451,070 and 67,048,039; 7,807²: 60,949,249, run 117,425,886;
+        # 7,808²: 60,964,864, run 117,455,970; 5,899²: 34,798,201, run 67,042,821; 5,900²: 34,810,000, run 67,065,553.
+        self.assertEqual([g.greatest_speed(w, 50_000, 3) for w in (7_999, 8_000)], [(0, 7_807), (0, 5_899)])
+        self.assertEqual([high_area(8_000, 50_000, v) for v in (5_899, 5_900)], [6_499_552, 6_501_507])
+        # 7,500²: 56,250,000, run 108,372,231: at 7,999 mm every mass. At 8,000 mm the saving is at least 42,112,503;
+        # 39,415,562,351 / 42,112,503 is 935.96.
+        self.assertEqual([g.greatest_mass(w, 7_500, 3) for w in (7_999, 8_000)], [(0, 25_000_000), (0, 935)])
+        self.assertEqual([high_area(8_000, m, 7_500) for m in (935, 936)], [6_496_287, 6_500_160])
+        # At 1,000 mm the run of 25,000 g is at most 2,944,166 + 1,576,622 = 4,520,788; 1,531²: 2,343,961, run 4,515,917; 1,532²:
+        # 2,347,024, run 4,521,818. Below there is no slide.
+        self.assertEqual([g.greatest_speed(w, 25_000, 1) for w in (999, 1_000)], [(0, 40_000), (0, 1_531)])
 
     def test_the_papers_sheets(self):
-        # P2, P4 and P5 are in their columns, and their own speed and mass pass there; P6 isn't in column 2
-        for (w, m, v), column in (((1_000, 10_000, 2_500), 1), ((3_000, 25_000, 3_500), 2), ((8_000, 50_000, 0), 2)):
+        # P2, P4 and P5 are in their columns, and their own speed and mass pass there
+        for (w, m, v), column in (((1_000, 10_000, 2_500), 2), ((3_000, 25_000, 3_500), 2), ((8_000, 50_000, 0), 3)):
             self.assertGreaterEqual(g.greatest_speed(w, m, column).speed, v)
             self.assertGreaterEqual(g.greatest_mass(w, v, column).mass, m)
-        self.assertEqual(g.greatest_speed(8_001, 50_000, 2), (21, 0))
-        self.assertEqual(g.greatest_mass(8_001, 0, 2), (21, 0))
+        # P5 and P6 aren't in column 2
+        for w in (8_000, 8_001):
+            self.assertEqual(g.greatest_speed(w, 50_000, 2), (21, 0))
+            self.assertEqual(g.greatest_mass(w, 0, 2), (21, 0))
 
 
 class GreatestTest(unittest.TestCase):
@@ -414,14 +440,14 @@ class QuickTest(unittest.TestCase):
 
 
 # At the formulas' cuts, at the largest dimension of each column, at the ends of the range, and between them.
-DIMENSIONS = (50, 999, 1_000, 1_001, 1_002, 1_500, 1_821, 1_822, 1_823, 3_000, 7_999, 8_000, 8_001, 8_002, 20_000, 20_357, 26_584, 26_585,
+DIMENSIONS = (50, 998, 999, 1_000, 1_001, 1_500, 1_821, 1_822, 1_823, 3_000, 7_998, 7_999, 8_000, 8_001, 20_000, 20_357, 26_584, 26_585,
               40_000, 88_773, 88_774, 100_000)
 
 
 class ScanTest(unittest.TestCase):
     def test_all_speeds_by_the_sheet(self):
         """Every speed from 0 to 40,000, one after the other, by nothing but the sheet."""
-        for w, m in ((1_001, 50), (8_001, 50_000)):
+        for w, m in ((1_000, 50), (8_000, 50_000)):
             columns = [sheet.column if sheet.refusal == 0 else 6 for sheet in (g.sheet(w, m, v) for v in range(40_001))]
             self.assertEqual(speeds(w, m), scanned(columns, range(40_001)), (w, m))
 
@@ -438,7 +464,7 @@ class ScanTest(unittest.TestCase):
 
     def test_all_masses(self):
         """Every mass from 50 to 25,000,000 g, those of one saving together."""
-        for w, v in ((1_000, 40_000), (1_001, 20_265), (1_283, 941), (2_011, 6_533), (8_000, 20_269), (8_001, 5_898), (22_204, 2_042),
+        for w, v in ((999, 40_000), (1_000, 20_265), (1_283, 941), (2_011, 6_533), (7_999, 20_269), (8_000, 5_899), (22_204, 2_042),
                      (20_357, 40_000), (88_773, 32)):
             run = RUNS[v]
             columns = quick_columns(w, [run - saving for saving in SAVINGS])
@@ -621,20 +647,22 @@ def nearest(top, bottom):
 
 
 class OtherFormsTest(unittest.TestCase):
-    """Another rounding or another last digit shows at one of the listed aircraft: it passes where it mustn't, or doesn't where it must."""
+    """Another rounding, another last digit or another cut shows at one of the listed aircraft: it passes where it mustn't, or doesn't
+    where it must."""
 
     def passes(self, w, m, v, column, saving=(down, 39_415_562_351), run=(up, 1_926_617_434), glide=2_570_667, width=600, area=up,
-               spare=0):
+               spare=0, cuts=(1_000, 8_000)):
         (saving_rounded, saving_constant), (run_rounded, run_constant) = saving, run
         a = w + width
         slide = max(0, run_rounded(v * v * run_constant, 10 ** 9) - saving_rounded(saving_constant, m))
         t = a * (glide + slide) + 785 * a * a
-        high = area(3 * t, 500_000) if g.area_formula(w) == g.SIX_TENTHS else area(t, 100_000)
+        flat = area(2 * a * glide + 785 * a * a, 200_000)
+        high = flat if w < cuts[0] else area(3 * t, 500_000) if w < cuts[1] else area(t, 100_000)
         return high <= g.AREA_LIMITS[column - 1] + spare
 
     def shows(self, **form):
         return [self.passes(w, m, v, column, **form) != accepted(w, m, v, column) for column, w, m, v in (
-            *(row[1:] for row in LAST + NEXT), *NO_SLIDE, SLOWEST)]
+            *(row[1:] for row in LAST + NEXT), *NO_SLIDE, SLOWEST, LAST_WITHOUT_SLIDE)]
 
     def test_the_papers_form(self):
         self.assertFalse(any(self.shows()))
@@ -646,7 +674,8 @@ class OtherFormsTest(unittest.TestCase):
                 {"run": (down, 1_926_617_434)}, {"run": (nearest, 1_926_617_434)}, {"run": (up, 1_926_617_433)},
                 {"run": (up, 1_926_617_435)}, {"run": (down, 1_926_617_433)},
                 {"glide": 2_570_666}, {"glide": 2_570_668}, {"width": 599}, {"width": 601},
-                {"area": down}, {"area": nearest}, {"spare": 1}, {"spare": -1}):
+                {"area": down}, {"area": nearest}, {"spare": 1}, {"spare": -1},
+                {"cuts": (999, 8_000)}, {"cuts": (1_001, 8_000)}, {"cuts": (1_000, 7_999)}, {"cuts": (1_000, 8_001)}):
             with self.subTest(form):
                 self.assertTrue(any(self.shows(**form)))
 
@@ -699,16 +728,24 @@ class PageTest(unittest.TestCase):
         self.assertEqual(len(lines), 5 * (2 + 4 + 14 + 1 + 4 + 16) + 4)
         self.assertEqual([line for line in lines if line.startswith("#")],
                          ["## 1,000 mm", "## 3,000 mm", "## 8,000 mm", "## 20,000 mm", "## 40,000 mm"])
-        self.assertEqual(lines[:9], [
+        self.assertEqual(lines[:7], [
             "## 1,000 mm", "", "Greatest speed in cm/s, by mass and column:", "", "| Mass | 1 | 2 | 3 | 4 | 5 |",
-            "|---:|---:|---:|---:|---:|---:|", *(f"| {mass} | 40,000 | 40,000 | 40,000 | 40,000 | 40,000 |"
-                                                 for mass in ("250 g", "900 g", "4 kg"))])
+            "|---:|---:|---:|---:|---:|---:|", "| 250 g | 9,130 | 10,723 | 20,767 | 40,000 | 40,000 |"])
         of_3_metres = lines[lines.index("## 3,000 mm"):]
         self.assertEqual(of_3_metres[6:20:13], ["| 250 g | – | 9,728 | 15,337 | 40,000 | 40,000 |",
                                                 "| 25,000 kg | – | 3,580 | 12,385 | 39,485 | 40,000 |"])
         self.assertEqual(of_3_metres[20:25], ["", "Greatest mass in g, by speed and column:", "", "| Speed | 1 | 2 | 3 | 4 | 5 |",
                                               "|---:|---:|---:|---:|---:|---:|"])
         self.assertEqual(of_3_metres[25], "| 1,000 cm/s | – | 25,000,000 | 25,000,000 | 25,000,000 | 25,000,000 |")
+        of_8_metres = lines[lines.index("## 8,000 mm"):]
+        self.assertEqual(of_8_metres[6], "| 250 g | – | – | 10,780 | 21,663 | 40,000 |")
+
+    def test_the_cuts_in_words(self):
+        page = (ROOT / "docs" / "TRADE_OFFS.md").read_text()
+        self.assertIn("50 kg keep to column 3 up to {:,} cm/s at 8,000 mm, up to {:,} cm/s at 7,999 mm".format(
+            *(g.greatest_speed(w, 50_000, 3).speed for w in (8_000, 7_999))), page)
+        self.assertIn("Below 1,000 mm the area has no slide", page)
+        self.assertEqual([g.greatest_speed(w, 50_000, 1).speed == FASTEST_OF_ALL for w in (999, 1_000)], [True, False])
 
     def test_every_cell(self):
         """By the answers solved without a search."""

@@ -10,7 +10,7 @@ import ground_risk as g
 # micrometre more of slide the column is higher. How many thousandths of a square millimetre T may still grow, the column, then
 # dimension (mm), mass (g), speed (cm/s).
 LAST = (
-    # hardly any, up to 8,000 mm and above; none at 1,653 mm, and in whole formulas where T / 100,000 is the limit
+    # hardly any, below 8,000 mm and from there up; none at 1,653 mm, and in whole formulas where T / 100,000 is the limit
     (1, 1, 1_741, 12_603, 1_318),
     (1, 1, 1_741, 248_213, 443),
     (4, 2, 6_877, 15_389, 2_114),
@@ -41,6 +41,10 @@ LAST = (
     (18_581, 5, 20_357, 1_891_341, 40_000),
     (4_034, 5, 20_358, 232_382, 40_000),
     (17_471, 5, 20_361, 64_001, 40_000),
+    # the first and the last with six tenths of the formula, the first with the whole
+    (533, 1, 1_000, 265_224, 1_267),
+    (1_297, 2, 7_999, 270_147, 1_333),
+    (3_000, 3, 8_000, 150_834, 5_876),
 )
 
 # The first that don't pass, by one micrometre of slide: the greatest speed is one less, and so is the greatest mass. By how many
@@ -76,6 +80,10 @@ NEXT = (
     # the greatest speed in range: all
     (2_376, 5, 20_357, 1_891_342, 40_000),
     (16_924, 5, 20_358, 232_383, 40_000),
+    # the first and the last with six tenths of the formula, the first with the whole
+    (1_067, 1, 1_000, 283_860, 1_265),
+    (7_302, 2, 7_999, 260_958, 1_334),
+    (5_600, 3, 8_000, 128_554, 5_878),
 )
 
 # The low saving is the high run, so that the high slide is exactly 0, and nothing faster or heavier passes: all. The column, then
@@ -94,16 +102,19 @@ NO_SLIDE = (
     (4, 88_773, 3_540, 2_404),
 )
 
+# The last dimension whose area has no slide, so that the heaviest passes at the greatest speed: the column, dimension, mass, speed.
+LAST_WITHOUT_SLIDE = (1, 999, 25_000_000, 40_000)
+
 # Only 50 g pass at this speed, and nothing one cm/s faster: 21. The column, dimension, speed.
 FASTEST = (
-    (1, 1_001, 20_265),
+    (1, 1_000, 20_265),
     (1, 1_822, 20_227),
-    (2, 1_001, 21_031),
-    (2, 8_000, 20_269),
-    (3, 1_001, 27_539),
-    (3, 8_001, 21_060),
+    (2, 1_000, 21_031),
+    (2, 7_999, 20_269),
+    (3, 1_000, 27_543),
+    (3, 8_000, 21_060),
     (3, 26_584, 20_227),
-    (4, 8_001, 28_223),
+    (4, 8_000, 28_224),
     (4, 88_773, 20_227),
     (5, 88_773, 27_366),
     (5, 100_000, 26_499),
@@ -111,7 +122,7 @@ FASTEST = (
 
 # The largest dimension that passes at rest; one millimetre more is 21, whatever the mass or the speed. In column 2 it is the last
 # with six tenths of the formula, in column 5 none.
-LARGEST = {1: 1_822, 2: 8_000, 3: 26_584, 4: 88_773}
+LARGEST = {1: 1_822, 2: 7_999, 3: 26_584, 4: 88_773}
 
 # The least greatest speed there is: the column, then the aircraft. So speed 0 never passes alone.
 SLOWEST = (4, 88_773, 25_000_000, 32)
@@ -131,7 +142,7 @@ def any_numbers(source):
 def sliding(source):
     """A dimension whose slide counts, and that passes at rest, with a mass, a speed and the column."""
     _, m, v, column = any_numbers(source)
-    first, last = 1_001, LARGEST.get(column, g.DIMENSION_RANGE[1])
+    first, last = 1_000, LARGEST.get(column, g.DIMENSION_RANGE[1])
     return int(first * ((last + 1) / first) ** source.random()), m, v, column
 
 
@@ -170,7 +181,7 @@ def where_all_ends(source):
 
 
 def where_a_formula_begins(source):
-    """A dimension about those of the size column, two of which end a formula's range."""
+    """A dimension about those of the size column, two of which begin a formula's range."""
     _, m, v, column = any_numbers(source)
     return source.choice(g.SIZE_PAIRS)[0] + source.choice((-1, 0, 1)), m, v, column
 

@@ -28,10 +28,10 @@ extern "C" {
 /* ---- Version ---- */
 
 /* The version of this header: the major number grows where an old signature or struct changes, the minor one where something
- * is new. A library serves a program that was built with this header where its major number is the same and nb_version() is at
- * least NB_VERSION. */
+ * is new or an old function answers otherwise. A library serves a program that was built with this header where its major number is
+ * the same and nb_version() is at least NB_VERSION. */
 #define NB_VERSION_MAJOR 3
-#define NB_VERSION_MINOR 3
+#define NB_VERSION_MINOR 4
 #define NB_VERSION_PATCH 0
 #define NB_VERSION (NB_VERSION_MAJOR * 10000 + NB_VERSION_MINOR * 100 + NB_VERSION_PATCH)
 
@@ -129,10 +129,14 @@ typedef struct {
 
 /* Lines 1 to 6 of the sheet, the column of the class table, the flag and the size column.
  *
+ * The area is the whole total from 8,000 mm up, six tenths of it from 1,000 mm up, and below 1,000 mm its glide and half its circle,
+ * without slide.
+ *
  * The size column is the first of five whose dimension and speed are both at least the aircraft's: 1,000 mm and 2,500 cm/s;
  * 3,000 and 3,500; 8,000 and 7,500; 20,000 and 12,000; 40,000 and 20,000. It is there to be shown, so that crews can see why
  * the area route was taken: where it is higher than the column, or 0, dimension and speed alone would give a higher column, or
- * none. The class comes from the area's column, never from the size column. */
+ * none. At exactly 1,000 and 8,000 mm it may be lower than the column. The class comes from the area's column, never from the size
+ * column. */
 typedef struct {
     nb_bracket_t glide;  /* micrometres */
     nb_bracket_t run;    /* micrometres */
@@ -228,7 +232,7 @@ nb_descent_t nb_descent(uint32_t dimension, uint32_t mass, uint32_t speed, uint3
  * wanted one. Every smaller number in range passes too, and no larger one does: an upper limit for the operator's manual.
  *
  * The column is that of nb_sheet's glide model, from the high area; the high impact angle model has no part in it. Where the area has
- * no slide, it depends on neither speed nor mass, and every column answers the greatest number in range. */
+ * no slide, below 1,000 mm, it depends on neither speed nor mass, and every column answers the greatest number in range. */
 typedef struct {
     uint8_t refusal;
     uint32_t speed; /* cm/s, 0 to 40,000; 0 where refused, so look at the refusal first */

@@ -1,11 +1,13 @@
-/* A whole case, a high angle, a descent, a greatest speed, and a greatest mass, that do one thing wrong, put before the library's own
- * by the linker (--wrap), to show that boundary.c notices it. The environment's FAULT says which. */
+/* A whole case, a sheet, a high angle, a descent, a greatest speed, and a greatest mass, that do one thing wrong, put before the
+ * library's own by the linker (--wrap), to show that boundary.c notices it. The environment's FAULT says which. */
 #include <nuggetbay.h>
 #include <stdlib.h>
 #include <string.h>
 
 uint8_t __real_nb_case(const uint8_t *text, size_t text_len, uint32_t *counts, size_t counts_len, uint64_t *marks,
                        size_t marks_len, uint8_t *frame, size_t frame_len);
+
+nb_sheet_answer_t __real_nb_sheet(uint32_t dimension, uint32_t mass, uint32_t speed);
 
 nb_high_angle_t __real_nb_high_angle(uint32_t dimension, uint32_t mass, uint32_t speed);
 
@@ -38,6 +40,19 @@ uint8_t __wrap_nb_case(const uint8_t *text, size_t text_len, uint32_t *counts, s
     case 'r': if (answer == NB_TEXT_BYTE) counts[0] = 0; break;                    /* stores under a refused reading */
     case 'n': answer ^= answer == NB_TEXT_SIZE; break;                             /* another refusal */
     case 'p': if (answer == 0) frame[NB_FRAME_LENGTH - 2] ^= 1; break;             /* another digit */
+    default: break;
+    }
+    return answer;
+}
+
+/* A cut of the area formula one millimetre too high, or too low: the area is that of the millimetre before, or after. */
+nb_sheet_answer_t __wrap_nb_sheet(uint32_t dimension, uint32_t mass, uint32_t speed) {
+    nb_sheet_answer_t answer = __real_nb_sheet(dimension, mass, speed);
+    switch (fault()) {
+    case 'A': if (dimension == 1000) answer.sheet.area = __real_nb_sheet(999, mass, speed).sheet.area; break;
+    case 'B': if (dimension == 8000) answer.sheet.area = __real_nb_sheet(7999, mass, speed).sheet.area; break;
+    case 'C': if (dimension == 999) answer.sheet.area = __real_nb_sheet(1000, mass, speed).sheet.area; break;
+    case 'D': if (dimension == 7999) answer.sheet.area = __real_nb_sheet(8000, mass, speed).sheet.area; break;
     default: break;
     }
     return answer;
@@ -82,6 +97,7 @@ static int is_column(uint8_t column) { return column >= 1 && column <= 5; }
 
 nb_greatest_speed_t __wrap_nb_greatest_speed(uint32_t dimension, uint32_t mass, uint8_t column) {
     char which = fault();
+    if (which == 'y' && dimension == 1000) dimension = 999; /* the cut at a metre too high */
     nb_greatest_speed_t answer = __real_nb_greatest_speed(dimension, mass, column);
     switch (which) {
     case 'h': if (answer.refusal == 0 && answer.speed > 0) answer.speed--; break;                /* one too small */
@@ -97,6 +113,7 @@ nb_greatest_speed_t __wrap_nb_greatest_speed(uint32_t dimension, uint32_t mass, 
 /* The same of a mass, by capital letters. */
 nb_greatest_mass_t __wrap_nb_greatest_mass(uint32_t dimension, uint32_t speed, uint8_t column) {
     char which = fault();
+    if (which == 'Y' && dimension == 8000) dimension = 7999; /* the other cut */
     nb_greatest_mass_t answer = __real_nb_greatest_mass(dimension, speed, column);
     switch (which) {
     case 'H': if (answer.refusal == 0) answer.mass--; break;

@@ -158,9 +158,9 @@ class InstalledTest(unittest.TestCase):
             ran = self.run_program(program, text)
             words = (ROOT / "console/examples" / f"{text.stem}.words").read_text()
             self.assertEqual((ran.stdout, ran.returncode), (words, 1 if words.startswith("refusal ") else 0))
-        self.assertEqual(self.run_program(program, self.faster_than_all_size_columns()).stdout,
-                         (ROOT / "console/examples/farmhouses.words").read_text().replace(
-                             "size column: 1\n", "size column: none is large enough\n"))
+        slow, fast = (self.run_program(program, self.below_a_metre(speed)).stdout for speed in (2_500, 20_001))
+        self.assertIn("size column: 1\n", slow)
+        self.assertEqual(fast, slow.replace("size column: 1\n", "size column: none is large enough\n"))
         self.assertEqual(self.run_program(program).returncode, 2)
         self.assertEqual(self.run_program(program, "/nowhere/at/all").returncode, 2)
         self.fails_on_a_full_disk(program, EXAMPLES[0])
@@ -208,10 +208,11 @@ class InstalledTest(unittest.TestCase):
             ran = subprocess.run([program, *arguments], stdout=full, stderr=subprocess.PIPE, text=True, env=self.environment)
         self.assertEqual((ran.returncode, ran.stderr.count("\n")), (2, 1), ran.stderr)
 
-    def faster_than_all_size_columns(self):
-        """The farmhouses under a faster aircraft, which at its dimension has the same area."""
-        text = self.place / "faster.case"
-        text.write_text((ROOT / "examples/farmhouses.case").read_text().replace(f"{2_500:08x}", f"{20_001:08x}", 1))
+    def below_a_metre(self, speed):
+        """The farmhouses under a smaller aircraft, which has the same area at every speed."""
+        text = self.place / f"{speed}.case"
+        farmhouses = (ROOT / "examples/farmhouses.case").read_text()
+        text.write_text(farmhouses.replace(f"{1_000:08x}", f"{999:08x}", 1).replace(f"{2_500:08x}", f"{speed:08x}", 1))
         return text
 
     def test_the_files(self):

@@ -62,7 +62,7 @@ int main(void) {
     nb_reading_t reading;
     make_text();
     USED(nb_case, WORD(text), sizeof text, WORD(counts), NB_MAP_CELLS, WORD(marks), NB_MAP_ROWS, WORD(frame), sizeof frame);
-    if (memcmp(frame, "000000c7ea", 10) != 0) return 1;
+    if (memcmp(frame, "000001bf3e", 10) != 0) return 1;
     USED(nb_read_case, WORD(&reading), WORD(text), sizeof text, WORD(counts), NB_MAP_CELLS, WORD(marks), NB_MAP_ROWS);
     USED(nb_assess, WORD(&assessment), 1000, 10000, 2500, WORD(counts), NB_MAP_CELLS, WORD(marks), NB_MAP_ROWS, 10000, 0, 0x1000);
     if (assessment.refusal != NB_ACCEPTED || assessment.footprint.people != 8) return 1;

@@ -1,6 +1,7 @@
 """The pages' numbers: README's are the checker's (the fields of a case, the mitigation digits, the class table, the size columns, the
-refusals, the frame that it explains, the high impact angle model, the descent, the trade-off), and so are the ranges of the greatest
-speed and mass in the header and the Rust package, and those of TRADE_OFFS; TRUST's are the header's and the repository's."""
+refusals, the frame that it explains, the high impact angle model, the descent, the trade-off), and so are the cuts of the area and the
+ranges of the greatest speed and mass in the header and the Rust package, and those of TRADE_OFFS; TRUST's are the header's and the
+repository's."""
 
 import re
 import sys
@@ -94,6 +95,26 @@ class ReadmeTest(unittest.TestCase):
                 self.assertEqual(size_column(*larger), 0 if column == len(sizes) else column + 1)
         for source in (HEADER, ANSWERS):
             self.assertIn(said, joined(source))
+
+    def test_the_cuts_of_the_area(self):
+        for source in (HEADER, ANSWERS):
+            whole, tenths, below = numbers_in(re.search(
+                "the whole total from (.* mm up, six tenths of it from .* mm up, and below .* mm) its glide and half its circle, without slide", joined(source))[1])
+            for dimension, counted in ((whole, 10), (whole - 1, 6), (tenths, 6)):
+                slow, fast = (g.sheet(dimension, 25_000, speed) for speed in (0, 2_500))
+                for sheet in (slow, fast):
+                    self.assertEqual(sheet.area.low, counted * sheet.t.low // 1_000_000)
+                self.assertLess(slow.area.low, fast.area.low)
+            self.assertEqual(below, tenths)
+            light, heavy = (g.sheet(below - 1, *given) for given in zip(g.MASS_RANGE, g.SPEED_RANGE))
+            a = g.full_width(below - 1)
+            self.assertEqual((light.area, light.area.low), (heavy.area, (2 * a * light.glide.low + 785 * a * a) // 200_000))
+            metres = re.search("below ([^ ]*) m what the aircraft sweeps as it glides, and half the circle; from ([^ ]*) m six tenths of glide, "
+                               "slide and circle; from ([^ ]*) m all of it", README)
+            self.assertEqual([1000 * int(metre) for metre in metres.groups()], [below, tenths, whole])
+            self.assertIn("exactly {:,} mm has a slide, and one of exactly {:,} mm the whole area".format(tenths, whole), README)
+        for page in (HEADER, CALLS):
+            self.assertEqual(set(re.findall(r"has no slide, below ([\d,]+) mm,", joined(page))), {f"{below:,}"})
 
     def test_the_frontal_area(self):
         said = re.search(r"in straight lines between (.*?), rounded down", README)[1]

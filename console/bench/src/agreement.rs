@@ -18,6 +18,9 @@ fn sheet_answer(result: Result<Sheet, u8>) -> SheetAnswer {
     }
 }
 
+/// On both sides of each cut, where the area formula changes, and one further.
+const AT_A_CUT: [u32; 6] = [999, 1_000, 1_001, 7_999, 8_000, 8_001];
+
 pub fn sheets(random: &mut Random, tally: &mut Tally) {
     for i in 0..200_000 {
         let mut a = inputs::any_aircraft(random);
@@ -32,6 +35,7 @@ pub fn sheets(random: &mut Random, tally: &mut Tally) {
                 a.dimension = largest + random.below(2) as u32;
                 a.speed = fastest + random.below(2) as u32;
             }
+            4 => a.dimension = random.one_of(&AT_A_CUT),
             _ => {}
         }
         let answer = library::sheet(a.dimension, a.mass, a.speed);
@@ -144,8 +148,7 @@ fn damaged_trade_off(random: &mut Random, kind: usize, mut asked: TradeOff, edge
         3 => asked.dimension = random.one_of(&[49, 50, 100_000, 100_001]),
         4 => asked.given = random.one_of(&[0, 49, 50, 40_000, 40_001, 25_000_000, 25_000_001]),
         5 => asked.column = random.between(1, 5) as u8,
-        // where the area formula changes
-        6 => asked.dimension = random.one_of(&[999, 1_000, 1_001, 7_999, 8_000, 8_001]),
+        6 => asked.dimension = random.one_of(&AT_A_CUT),
         7 => asked.dimension = random.between(50, 100_000),
         8..=12 => asked.given = (edge.unwrap_or(asked.given) + random.below(3) as u32).saturating_sub(1),
         _ => {}

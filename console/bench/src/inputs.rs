@@ -30,7 +30,7 @@ impl Random {
 
 /// Of all sizes, masses and speeds; a few are refused for their area.
 pub fn any_aircraft(random: &mut Random) -> Aircraft {
-    let dimension = random.one_of(&[(50, 1_000), (1_001, 8_000), (8_001, 20_000), (20_001, 100_000)]);
+    let dimension = random.one_of(&[(50, 999), (1_000, 7_999), (8_000, 20_000), (20_001, 100_000)]);
     let mass = random.one_of(&[(50, 1_000), (1_001, 25_000), (25_001, 1_000_000), (1_000_001, 25_000_000)]);
     let speed = random.one_of(&[(0, 2_500), (2_501, 7_500), (7_501, 20_000), (20_001, 40_000)]);
     Aircraft {
@@ -102,10 +102,10 @@ pub struct TradeOff {
 /// of sixteen has no slide, and one is any.
 fn dimension_and_column(random: &mut Random) -> (u32, u8) {
     let of_columns =
-        [(1, 1_001, 1_800), (2, 1_001, 8_000), (3, 1_001, 25_000), (4, 3_001, 85_000), (5, 21_000, 100_000)];
+        [(1, 1_000, 1_800), (2, 1_000, 7_999), (3, 1_000, 25_000), (4, 3_001, 85_000), (5, 21_000, 100_000)];
     let (column, least, most) = match random.below(16) {
-        0 => (random.between(1, 5) as u8, 50, 1_000),
-        1 => (random.between(1, 5) as u8, 1_001, 100_000),
+        0 => (random.between(1, 5) as u8, 50, 999),
+        1 => (random.between(1, 5) as u8, 1_000, 100_000),
         _ => random.one_of(&of_columns),
     };
     (random.between(least, most), column)
@@ -134,11 +134,7 @@ pub fn wanted_mass(random: &mut Random) -> TradeOff {
 
 /// Of column 1, so that every row of the class table has a class.
 pub fn small_aircraft(random: &mut Random) -> Aircraft {
-    Aircraft {
-        dimension: random.between(300, 1_000),
-        mass: random.between(250, 25_000),
-        speed: random.between(0, 3_000),
-    }
+    Aircraft { dimension: random.between(300, 999), mass: random.between(250, 25_000), speed: random.between(0, 3_000) }
 }
 
 #[derive(Clone)]

@@ -45,9 +45,9 @@ pub fn sheet(dimension: u32, mass: u32, speed: u32) -> Result<Sheet, u8> {
     let a = u64::from(dimension) + 600;
     let total_at = |glide: u64, slide: u64| a * (glide + slide) + 785 * a * a;
     let total = Bracket { low: total_at(glide.low, slide.low), high: total_at(glide.high, slide.high) };
-    let area = if dimension > 8_000 {
+    let area = if dimension >= 8_000 {
         Bracket { low: total.low / 100_000, high: rounded_up!(total.high, 100_000) }
-    } else if dimension > 1_000 {
+    } else if dimension >= 1_000 {
         Bracket { low: 3 * total.low / 500_000, high: rounded_up!(3 * total.high, 500_000) }
     } else {
         let without_slide = |glide: u64| 2 * a * glide + 785 * a * a;

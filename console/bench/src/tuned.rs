@@ -41,9 +41,9 @@ pub fn sheet(dimension: u32, mass: u32, speed: u32) -> SheetAnswer {
     let a = u64::from(dimension) + 600;
     let round = 785 * a;
     let total = Bracket { low: a * (2_570_666 + slide.low + round), high: a * (2_570_667 + slide.high + round) };
-    let area = if dimension > 8_000 {
+    let area = if dimension >= 8_000 {
         Bracket { low: total.low / 100_000, high: (total.high + 99_999) / 100_000 }
-    } else if dimension > 1_000 {
+    } else if dimension >= 1_000 {
         Bracket { low: 3 * total.low / 500_000, high: (3 * total.high + 499_999) / 500_000 }
     } else {
         Bracket { low: a * (5_141_332 + round) / 200_000, high: (a * (5_141_334 + round) + 199_999) / 200_000 }
@@ -360,7 +360,7 @@ pub fn descent(dimension: u32, mass: u32, speed: u32, height: u32, budget: u32) 
     fall_from(body, f64::from(height) / 100.0, budget, f64::from(speed) / 100.0)
 }
 
-/// The largest total of each column, in thousandths of a square millimetre: up to 8,000 mm, where six tenths of it count, and above.
+/// The largest total of each column, in thousandths of a square millimetre: below 8,000 mm, where six tenths of it count, and from there.
 static TOTALS: [[i64; 5]; 2] = {
     let mut totals = [[0; 5]; 2];
     let mut column = 0;
@@ -381,17 +381,17 @@ fn quotient(number: i64, by: i64) -> i64 {
     (number as f64 / by as f64) as i64
 }
 
-/// Up to 1,000 mm, where there is no slide: whether the area is within the column's limit.
+/// Below 1,000 mm, where there is no slide: whether the area is within the column's limit.
 fn fits_without_slide(dimension: u32, column: u8) -> bool {
     let a = u64::from(dimension) + 600;
     a * (5_141_334 + 785 * a) <= 200_000 * LIMITS[usize::from(column - 1) % 5]
 }
 
-/// Above 1,000 mm: the longest high slide, in micrometres, with which the area is within the column's limit; negative where it isn't
+/// From 1,000 mm on: the longest high slide, in micrometres, with which the area is within the column's limit; negative where it isn't
 /// with none.
 fn longest_slide(dimension: u32, column: u8) -> i64 {
     let a = i64::from(dimension) + 600;
-    quotient(TOTALS[usize::from(dimension > 8_000)][usize::from(column - 1) % 5], a) - (2_570_667 + 785 * a)
+    quotient(TOTALS[usize::from(dimension >= 8_000)][usize::from(column - 1) % 5], a) - (2_570_667 + 785 * a)
 }
 
 fn refused_speed(refusal: u8) -> GreatestSpeed {
@@ -411,7 +411,7 @@ pub fn greatest_speed(dimension: u32, mass: u32, column: u8) -> GreatestSpeed {
     if column.wrapping_sub(1) > 4 {
         return refused_speed(20);
     }
-    if dimension <= 1_000 {
+    if dimension < 1_000 {
         let fits = fits_without_slide(dimension, column);
         return if fits { GreatestSpeed { refusal: 0, speed: 40_000 } } else { refused_speed(21) };
     }
@@ -447,7 +447,7 @@ pub fn greatest_mass(dimension: u32, speed: u32, column: u8) -> GreatestMass {
     if column.wrapping_sub(1) > 4 {
         return refused_mass(20);
     }
-    if dimension <= 1_000 {
+    if dimension < 1_000 {
         let fits = fits_without_slide(dimension, column);
         return if fits { GreatestMass { refusal: 0, mass: 25_000_000 } } else { refused_mass(21) };
     }

@@ -38,7 +38,8 @@ pub struct Sheet {
     pub slide: Bracket,
     /// Line 5, the total, in thousandths of a square millimetre.
     pub total: Bracket,
-    /// Line 6, the critical area, in square centimetres. The high one is at most 650,000,000, else [`Refusal::Area`].
+    /// Line 6, the critical area, in square centimetres: the whole total from 8,000 mm up, six tenths of it from 1,000 mm up, and
+    /// below 1,000 mm its glide and half its circle, without slide. The high one is at most 650,000,000, else [`Refusal::Area`].
     pub area: Bracket,
     /// The column of the class table, 1 to 5, from the high area.
     pub column: u8,
@@ -48,7 +49,8 @@ pub struct Sheet {
     /// large enough. The five are 1,000 mm and 2,500 cm/s; 3,000 and 3,500; 8,000 and 7,500; 20,000 and 12,000; 40,000 and 20,000.
     ///
     /// It is there to be shown, so that crews can see why the area route was taken: where it is higher than the column, or `None`,
-    /// dimension and speed alone would give a higher column, or none. The class comes from [`column`](Sheet::column), never from it.
+    /// dimension and speed alone would give a higher column, or none. At exactly 1,000 and 8,000 mm it may be lower than the column.
+    /// The class comes from [`column`](Sheet::column), never from it.
     pub size_column: Option<u8>,
 }
 

@@ -91,7 +91,7 @@ pub const fn line_1_place(name: &str) -> Option<Range<usize>> {
 /// ```
 /// use nuggetbay::layout::frame_place;
 ///
-/// let frame = b"000000c7ea0000c7eb010001050000000000080504\n";
+/// let frame = b"000001bf3e0001bf3f020001050000000000080605\n";
 /// assert_eq!(&frame[frame_place("people").unwrap()], b"00000008");
 /// assert_eq!(frame_place("mass"), None);
 /// ```

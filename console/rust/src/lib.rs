@@ -67,8 +67,8 @@ fn accepted(number: u8) -> Result<(), Refusal> {
 ///
 /// let aircraft = Aircraft { dimension: 1_000, mass: 10_000, speed: 2_500 };
 /// let answer = sheet(aircraft)?;
-/// assert_eq!(answer.area, Bracket { low: 51_178, high: 51_179 });
-/// assert_eq!((answer.column, answer.flag, answer.size_column), (1, false, Some(1)));
+/// assert_eq!(answer.area, Bracket { low: 114_494, high: 114_495 });
+/// assert_eq!((answer.column, answer.flag, answer.size_column), (2, false, Some(1)));
 ///
 /// assert_eq!(sheet(Aircraft { mass: 49, ..aircraft }), Err(Refusal::Mass));
 /// # Ok::<(), Refusal>(())
@@ -168,8 +168,8 @@ pub fn descent(aircraft: Aircraft, height: u32, budget: u32) -> Result<Descent, 
 /// column at most the wanted one (1 to 5): the trade-off that Annex F, section 1.7.4, makes by tables, made for one aircraft.
 ///
 /// Every lower speed passes too, and no higher one does: an upper limit for the operator's manual. The column is that of the sheet's
-/// glide model, from the high area; the model of [`high_angle`] has no part in it. Where the area has no slide, it depends on neither
-/// speed nor mass, and for every column the answer is 40,000, the greatest in range.
+/// glide model, from the high area; the model of [`high_angle`] has no part in it. Where the area has no slide, below 1,000 mm, it
+/// depends on neither speed nor mass, and for every column the answer is 40,000, the greatest in range.
 ///
 /// # Errors
 ///
@@ -199,7 +199,7 @@ pub fn greatest_speed(dimension: u32, mass: u32, column: u8) -> Result<u32, Refu
 
 /// The greatest mass in g (50 to 25,000,000) with which the [`sheet`] of an aircraft of this dimension and speed is accepted with a
 /// column at most the wanted one (1 to 5). All else is as with [`greatest_speed`]: every lower mass in range passes too, and where the
-/// area has no slide the answer is 25,000,000, the greatest in range.
+/// area has no slide, below 1,000 mm, the answer is 25,000,000, the greatest in range.
 ///
 /// # Errors
 ///
@@ -328,7 +328,7 @@ pub fn final_class(column: u8, class: u8, word: u16) -> Result<i8, Refusal> {
 ///     word: 0x1000,
 /// };
 /// let assessment = assess(question)?;
-/// assert_eq!((assessment.row_used, assessment.intrinsic, assessment.final_class), (5, 5, 4));
+/// assert_eq!((assessment.row_used, assessment.intrinsic, assessment.final_class), (5, 6, 5));
 ///
 /// assert_eq!(assess(Question { cell_area: 99, ..question }), Err(Refusal::CellArea));
 /// # Ok::<(), Refusal>(())
@@ -399,7 +399,7 @@ impl CaseHead {
 /// assert_eq!((counts[0], marks[0]), (8, 1 << 63));
 ///
 /// let assessment = head.assess(&counts, &marks)?;
-/// assert_eq!((assessment.intrinsic, assessment.final_class), (5, 4));
+/// assert_eq!((assessment.intrinsic, assessment.final_class), (6, 5));
 ///
 /// let capital = text.to_uppercase();
 /// assert_eq!(read_case(capital.as_bytes(), &mut counts, &mut marks), Err(Refusal::TextByte));
@@ -429,19 +429,19 @@ pub fn read_case(text: &[u8], counts: &mut [u32], marks: &mut [u64]) -> Result<C
 ///
 /// let mut frame = [0; FRAME_LENGTH];
 /// let fields = FrameFields {
-///     low: 51_178,
-///     high: 51_179,
-///     column: 1,
+///     low: 114_494,
+///     high: 114_495,
+///     column: 2,
 ///     flag: false,
 ///     size_column: Some(1),
 ///     row_used: 5,
 ///     place: 0,
 ///     people: 8,
-///     intrinsic: 5,
-///     final_class: 4,
+///     intrinsic: 6,
+///     final_class: 5,
 /// };
 /// let length = write_frame(Ok(fields), &mut frame)?;
-/// assert_eq!(&frame[..length], b"000000c7ea0000c7eb010001050000000000080504\n");
+/// assert_eq!(&frame[..length], b"000001bf3e0001bf3f020001050000000000080605\n");
 ///
 /// let length = write_frame(Err(Refusal::FinalClass), &mut frame)?;
 /// assert_eq!(&frame[..length], b"0c\n");
@@ -481,7 +481,7 @@ pub fn write_frame(case: Result<FrameFields, Refusal>, frame: &mut [u8]) -> Resu
 ///
 /// let (mut counts, mut marks, mut frame) = ([0; MAP_CELLS], [0; MAP_ROWS], [0; FRAME_LENGTH]);
 /// case(text.as_bytes(), &mut counts, &mut marks, &mut frame)?;
-/// assert_eq!(&frame, b"000000c7ea0000c7eb010001050000000000080504\n");
+/// assert_eq!(&frame, b"000001bf3e0001bf3f020001050000000000080605\n");
 ///
 /// text.pop();
 /// let refused = case(text.as_bytes(), &mut counts, &mut marks, &mut frame);

@@ -13,13 +13,22 @@ fn area_and_column(dimension: u32, mass: u32, speed: u32) -> Result<(u64, u64, u
 #[test]
 fn p1_to_p8_the_sheet() {
     assert_eq!(area_and_column(50, 50, 0), Ok((18_367, 18_368, 1)));
-    assert_eq!(area_and_column(1_000, 10_000, 2_500), Ok((51_178, 51_179, 1)));
+    assert_eq!(area_and_column(1_000, 10_000, 2_500), Ok((114_494, 114_495, 2)));
     assert_eq!(area_and_column(1_001, 10_000, 0), Ok((36_766, 36_767, 1)));
     assert_eq!(area_and_column(3_000, 25_000, 3_500), Ok((592_295, 592_296, 2)));
-    assert_eq!(area_and_column(8_000, 50_000, 0), Ok((480_997, 480_999, 2)));
+    assert_eq!(area_and_column(8_000, 50_000, 0), Ok((801_663, 801_664, 3)));
     assert_eq!(area_and_column(8_001, 50_000, 0), Ok((801_824, 801_825, 3)));
     assert_eq!(area_and_column(49, 0, 0), Err(Refusal::Dimension));
     assert_eq!(area_and_column(100_000, 25_000_000, 40_000), Err(Refusal::Area));
+}
+
+#[test]
+fn from_1000_mm_six_tenths_count_and_from_8000_mm_the_whole() {
+    assert_eq!(area_and_column(999, 10_000, 2_500), Ok((51_140, 51_141, 1)));
+    assert_eq!(area_and_column(999, 10_000, 0), Ok((51_140, 51_141, 1)));
+    assert_eq!(area_and_column(1_000, 10_000, 0), Ok((36_735, 36_737, 1)));
+    assert_eq!(area_and_column(7_999, 50_000, 0), Ok((480_901, 480_902, 2)));
+    assert_eq!(area_and_column(8_000, 50_000, 0), Ok((801_663, 801_664, 3)));
 }
 
 #[test]
@@ -56,11 +65,12 @@ fn the_class_comes_from_the_area_and_not_from_the_size() {
             Question { aircraft, counts: &counts, marks: &marks, cell_area: 10_000, controlled: false, word: 0 };
         assess(question).map(|a| (a.sheet.size_column, a.sheet.column, a.intrinsic))
     };
-    assert_eq!(assessed(P2), Ok((Some(1), 1, 5)));
-    // P5
-    assert_eq!(assessed(Aircraft { dimension: 8_000, mass: 50_000, speed: 0 }), Ok((Some(3), 2, 6)));
-    // up to 1,000 mm no slide counts, whatever the speed
-    assert_eq!(assessed(Aircraft { speed: 40_000, ..P2 }), Ok((None, 1, 5)));
+    assert_eq!(assessed(P2), Ok((Some(1), 2, 6)));
+    // P5, and one millimetre less
+    assert_eq!(assessed(Aircraft { dimension: 8_000, mass: 50_000, speed: 0 }), Ok((Some(3), 3, 7)));
+    assert_eq!(assessed(Aircraft { dimension: 7_999, mass: 50_000, speed: 0 }), Ok((Some(3), 2, 6)));
+    // below 1,000 mm no slide counts, whatever the speed
+    assert_eq!(assessed(Aircraft { dimension: 999, speed: 40_000, ..P2 }), Ok((None, 1, 5)));
 }
 
 fn bracket(low: u64, high: u64) -> Bracket {
@@ -240,7 +250,8 @@ fn the_greatest_speeds_and_masses_of_an_aircraft() {
 
 #[test]
 fn no_larger_number_passes_and_the_greatest_does() {
-    let (dimensions, masses) = ([50, 999, 1_500, 3_000, 7_999, 8_001, 20_000, 100_000], [50, 900, 25_000, 25_000_000]);
+    let dimensions = [50, 999, 1_000, 1_500, 3_000, 7_999, 8_000, 20_000, 100_000];
+    let masses = [50, 900, 25_000, 25_000_000];
     for dimension in dimensions {
         for column in 1..=5 {
             for mass in masses {
@@ -267,6 +278,18 @@ fn where_the_area_has_no_slide_the_ends_of_the_ranges_are_the_greatest() {
         assert_eq!(greatest_speed(999, number, 1), Ok(40_000));
         assert_eq!(greatest_mass(999, number, 1), Ok(25_000_000));
     }
+    // from 1,000 mm on it has one
+    assert_eq!((greatest_speed(1_000, 25_000, 1), greatest_mass(1_000, 2_500, 1)), (Ok(1_531), Ok(4_332)));
+}
+
+#[test]
+fn at_8000_mm_the_whole_area_is_too_large_for_column_2() {
+    let none = Err(Refusal::NoneForColumn);
+    let greatest =
+        |dimension, column| [greatest_speed(dimension, 25_000, column), greatest_mass(dimension, 2_500, column)];
+    assert_eq!(greatest(7_999, 2), [Ok(1_587), Ok(4_497)]);
+    assert_eq!(greatest(8_000, 2), [none, none]);
+    assert_eq!(greatest(8_000, 3), [Ok(5_933), Ok(25_000_000)]);
 }
 
 #[test]
@@ -355,7 +378,7 @@ fn the_assessment_is_its_parts() {
     let a = assess(question).expect("P16 is accepted");
     assert_eq!(Ok(a.sheet), sheet(P2));
     assert_eq!(Ok(a.footprint), footprint(&counts, &marks, 10_000));
-    assert_eq!((a.row_used, a.intrinsic, a.final_class), (5, 5, 4));
+    assert_eq!((a.row_used, a.intrinsic, a.final_class), (5, 6, 5));
     let controlled = assess(Question { controlled: true, ..question }).expect("P16 on controlled ground is accepted");
     assert_eq!((controlled.row_used, controlled.intrinsic, controlled.final_class), (1, 1, 1));
     let of_aircraft = |aircraft| assess(Question { aircraft, ..question });
@@ -434,7 +457,7 @@ fn p16_the_whole_case() {
     let mut l = lent();
     assert_eq!(text().len(), TEXT_LENGTH);
     assert_eq!(case(&text(), &mut l.counts, &mut l.marks, &mut l.frame), Ok(()));
-    assert_eq!(l.frame, b"000000c7ea0000c7eb010001050000000000080504\nxxxxxxxxx");
+    assert_eq!(l.frame, b"000001bf3e0001bf3f020001050000000000080605\nxxxxxxxxx");
     let (counts, marks) = one_cell(8, 0);
     assert_eq!((l.counts, l.marks), (counts, marks));
 }

@@ -12,7 +12,6 @@ use Rattle.columns.proofs.ExactColumnHolds.{exact_column_lem}
 use Rattle.sheet.specs.Ranges.{InRange}
 use Rattle.sheet.specs.declared.Formula.{Formula}
 use Rattle.sheet.specs.declared.Formula.TheVariants.{Whole, SixTenths, GlideOnly}
-use Rattle.sheet.specs.Lines.{formula_of}
 use Rattle.sheet.specs.Sheet.{lines_of, sheet_of}
 use Rattle.sheet.specs.declared.SheetAnswer.{SheetAnswer}
 use Rattle.sheet.specs.Acceptance.{RefusedExactlyWhen}
@@ -54,7 +53,7 @@ pub exact_pos : (w m v : ℕ) → 0 < m → 0 < (exact_area w m v).den
 unfolding exact_area
 exact_pos w m v h =
     times_pos (10000 over 1) _ (lit< tt)
-    (in_pos (formula_of w) (half_width w) exact_glide (exact_slide m v) (width_pos w) glide_pos (slide_pos m v h))
+    (in_pos _ (half_width w) exact_glide (exact_slide m v) (width_pos w) glide_pos (slide_pos m v h))
 
 lines_area : (w m v : ℕ) → InRange w m v → AreaIsAccurate w m v (lines_of w m v)
 unfolding div_up

@@ -44,8 +44,8 @@ unfoldable pub whole_area : Fraction → Fraction → Fraction → Fraction
 whole_area d glide slide =
     plus (times (times (2 over 1) d) (plus glide slide)) (times (314 over 100) (times d d))
 
--- "w above 8,000: [that]. w above 1,000, up to 8,000: six tenths of the same. w up to 1,000: 2 × D × glide + half of 3.14 × D². No slide."
--- Formulas (1), (2) and (3).
+-- The first case is that, the second "six tenths of the same", the third "2 × D × glide + half of 3.14 × D². No slide." Formulas (1), (2) and (3). Which
+-- case a dimension takes is said once, in sheet Lines: `formula_of`.
 unfoldable pub exact_by : Formula → Fraction → Fraction → Fraction → Fraction
 exact_by Whole d glide slide = whole_area d glide slide
 exact_by SixTenths d glide slide = times (6 over 10) (whole_area d glide slide)

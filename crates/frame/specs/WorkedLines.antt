@@ -5,28 +5,28 @@ use Rattle.frame.specs.Layout.{class_width}
 use Rattle.frame.specs.Frame.{class_byte, frame_line, refusal_line}
 use Rattle.frame.specs.declared.FrameFields.{FrameFields}
 
--- the fields of P16, and its line `000000c7ea0000c7eb0100050000000000080504` with "01 at P16" (document 02, item 1) after the flag, and the
--- line end
+-- the fields of P16, "worked again" (document 02, item 6), and its line `000001bf3e0001bf3f020001050000000000080605`, in it "01 at P16" (item 1)
+-- after the flag, and the line end
 abbrev pub p16_fields : FrameFields
 p16_fields =
     record {
-      low = 51178;
-      high = 51179;
-      column = 1;
+      low = 114494;
+      high = 114495;
+      column = 2;
       flag = 0;
       size_column = 1;
       row_used = 5;
       place = 0;
       people = 8;
-      intrinsic = 5;
-      final_class = pos 4;
+      intrinsic = 6;
+      final_class = pos 5;
     }
 
 abbrev pub p16_line : List ℕ
 p16_line =
-    48 ∷ 48 ∷ 48 ∷ 48 ∷ 48 ∷ 48 ∷ 99 ∷ 55 ∷ 101 ∷ 97 ∷ 48 ∷ 48 ∷ 48 ∷ 48
-    ∷ 99 ∷ 55 ∷ 101 ∷ 98 ∷ 48 ∷ 49 ∷ 48 ∷ 48 ∷ 48 ∷ 49 ∷ 48 ∷ 53 ∷ 48 ∷ 48 ∷ 48 ∷ 48
-    ∷ 48 ∷ 48 ∷ 48 ∷ 48 ∷ 48 ∷ 48 ∷ 48 ∷ 56 ∷ 48 ∷ 53 ∷ 48 ∷ 52 ∷ 10 ∷ []
+    48 ∷ 48 ∷ 48 ∷ 48 ∷ 48 ∷ 49 ∷ 98 ∷ 102 ∷ 51 ∷ 101 ∷ 48 ∷ 48 ∷ 48 ∷ 49
+    ∷ 98 ∷ 102 ∷ 51 ∷ 102 ∷ 48 ∷ 50 ∷ 48 ∷ 48 ∷ 48 ∷ 49 ∷ 48 ∷ 53 ∷ 48 ∷ 48 ∷ 48 ∷ 48
+    ∷ 48 ∷ 48 ∷ 48 ∷ 48 ∷ 48 ∷ 48 ∷ 48 ∷ 56 ∷ 48 ∷ 54 ∷ 48 ∷ 53 ∷ 10 ∷ []
 
 pub record WorkedLines : Type 0 where
   pub p16 : frame_line p16_fields ≡ p16_line

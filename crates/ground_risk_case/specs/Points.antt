@@ -1,4 +1,4 @@
--- P1 to P16 of document 01 as one table.
+-- P1 to P16 of document 01 as one table; P2, P5 and P16 as document 02, item 6, has them.
 use Rattle.std.specs.Prelude.{◌≡◌, cond, List, [], ◌∷◌, ◌++◌, map, ℕ, ◌^◌, ◌≤◌, eqb, length}
 use Rattle.arithmetic.specs.Each.{Each}
 use Rattle.arithmetic.specs.Lists.{tabulate, stored}

@@ -8,7 +8,7 @@ use frame::FRAME_LENGTH;
 const SPREADS: [u64; 7] = [1, 2, 8, 50, 500, 5000, 65536];
 
 // What the numbers of line 1 are drawn from: the first and the last number of each band.
-const DIMENSION_BANDS: [(u32, u32); 4] = [(50, 1000), (1001, 8000), (8001, 20000), (20001, 100000)];
+const DIMENSION_BANDS: [(u32, u32); 4] = [(50, 999), (1000, 7999), (8000, 20000), (20001, 100000)];
 
 const MASS_BANDS: [(u32, u32); 4] = [
     (50, 1000),

@@ -1,14 +1,15 @@
--- More speed or more mass never lowers an area.
+-- More speed or more mass never lowers an area; more dimension can.
 use Prim.Native.Nat.{ℕ, ◌≤◌, ◌<◌}
 use native.Mathlib.Nat.{mul-le-mul, mul-le-mul_left, mul-le-mul_right, add-le-add, le_refl}
 use native.Mathlib.Omega.{arith}
 use lib.Dec.{lit<}
+use Rattle.arithmetic.specs.Rounding.{div_up}
 use Rattle.arithmetic.proofs.RoundingLaws.{down_mono, up_mono, down_anti, up_anti}
 use Rattle.sheet.specs.declared.Formula.{Formula}
 use Rattle.sheet.specs.declared.Formula.TheVariants.{Whole, SixTenths, GlideOnly}
 use Rattle.sheet.specs.Lines.{full_width, glide_of, formula_of, run_rate, run_scale, run_of, saving_times_mass, saving_of, total_at, total_of, area_num, area_den, area_of}
 use Rattle.sheet.specs.Sheet.{with_lines, lines_with_size_column}
-use Rattle.sheet.specs.Growth.{AreaGrowsWithMassAndSpeed}
+use Rattle.sheet.specs.Growth.{AreaGrowsWithMassAndSpeed, AreaDoesNotAlwaysGrow}
 use Rattle.sheet.proofs.FormulaLaws.{denominator_pos}
 
 run_grows : (v v' : ℕ) → v ≤ v' → ((run_of v).low ≤ (run_of v').low) × ((run_of v).high ≤ (run_of v').high)
@@ -46,3 +47,7 @@ area_grows w m m' v v' p hm hv =
           up_mono _ _ (area_den (formula_of w)) (denominator_pos (formula_of w))
           (numerator_grows (formula_of w) (full_width w) (full_width w) glide_of.high _ _ (le_refl _) (omega arith));
     }
+
+pub area_does_not_always_grow : AreaDoesNotAlwaysGrow
+unfolding lines_with_size_column with_lines area_of formula_of total_of saving_of run_of div_up
+area_does_not_always_grow = lit< tt

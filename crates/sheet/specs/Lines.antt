@@ -1,5 +1,5 @@
 -- Lines 1 to 6 of the sheet, "in whole numbers, each low and high. Lengths are micrometres"
-use Rattle.std.specs.Prelude.{cond, ℕ, ◌+◌, ◌-◌, ◌*◌, ltb}
+use Rattle.std.specs.Prelude.{cond, ℕ, ◌+◌, ◌-◌, ◌*◌, leb}
 use Rattle.columns.specs.Bracket.{bracket, rounded_outward}
 use Rattle.columns.specs.declared.Bracket.{Bracket}
 use Rattle.sheet.specs.declared.Formula.{Formula}
@@ -42,23 +42,24 @@ unfoldable pub total_of : ℕ → Bracket → Bracket → Bracket
 total_of a glide slide =
     bracket (total_at a glide.low slide.low) (total_at a glide.high slide.high)
 
--- "above 8,000 mm", "above 1,000 mm"
-abbrev pub whole_above : ℕ
-whole_above = 8000
+-- The cuts, by document 02, item 6: "8 metres and above is the first case, below 1 metre is the third. So 1,000 mm takes six tenths of the full formula
+-- and 8,000 mm takes all of it." Document 01 had "above 8,000 mm" and "above 1,000 mm".
+abbrev pub whole_from : ℕ
+whole_from = 8000
 
-abbrev pub six_tenths_above : ℕ
-six_tenths_above = 1000
+abbrev pub six_tenths_from : ℕ
+six_tenths_from = 1000
 
--- the three area formulas: the whole one above the first dimension, six tenths of it above the second, "otherwise" glide only
+-- the three area formulas: the whole one from the first dimension up, six tenths of it from the second, "otherwise" glide only
 unfoldable pub formula_of : ℕ → Formula
-formula_of w = cond (ltb whole_above w) Whole (cond (ltb six_tenths_above w) SixTenths GlideOnly)
+formula_of w = cond (leb whole_from w) Whole (cond (leb six_tenths_from w) SixTenths GlideOnly)
 
 -- "2 × a × glide + 785 × a × a"
 abbrev pub glide_only_at : ℕ → ℕ → ℕ
 glide_only_at a glide = 2 * a * glide + 785 * a * a
 
--- "6. Area in square centimetres, low rounded down and high rounded up: T / 100,000 above 8,000 mm;
--- 3 × T / 500,000 above 1,000 mm; otherwise (2 × a × glide + 785 × a × a) / 200,000."
+-- "6. Area in square centimetres, low rounded down and high rounded up: T / 100,000 [from] 8,000 mm;
+-- 3 × T / 500,000 [from] 1,000 mm; otherwise (2 × a × glide + 785 × a × a) / 200,000."
 abbrev pub area_num : Formula → ℕ → ℕ → ℕ → ℕ
 area_num Whole a glide total = total
 area_num SixTenths a glide total = 3 * total

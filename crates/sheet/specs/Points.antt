@@ -1,4 +1,5 @@
--- The worked points P1 to P8 of document 01. Their size columns are worked by us; document 02, item 1, gives that of P2's aircraft, "01 at P16".
+-- The worked points P1 to P8 of document 01, "P2, P5 .. worked again" (document 02, item 6). Their size columns are worked by us; item 1 gives that of
+-- P2's aircraft, "01 at P16".
 use Rattle.std.specs.Prelude.{◌≡◌, List, [], ◌∷◌, ℕ}
 use Rattle.sheet.specs.Sheet.{sheet_of}
 
@@ -35,10 +36,10 @@ refused w m v n = record { w = w; m = m; v = v; figures = record { refusal = n; 
 abbrev pub sheet_points : List SheetPoint
 sheet_points =
     accepted 50 50 0 18367 18368 1 1
-    ∷ accepted 1000 10000 2500 51178 51179 1 1
+    ∷ accepted 1000 10000 2500 114494 114495 2 1
     ∷ accepted 1001 10000 0 36766 36767 1 2
     ∷ accepted 3000 25000 3500 592295 592296 2 2
-    ∷ accepted 8000 50000 0 480997 480999 2 3
+    ∷ accepted 8000 50000 0 801663 801664 3 3
     ∷ accepted 8001 50000 0 801824 801825 3 4
     ∷ refused 49 0 0 1
     ∷ refused 100000 25000000 40000 4

@@ -9,10 +9,10 @@ ghost use Rattle.sheet.specs.PrivateAreaTenths.{total_taken};
 use crate::{Formula, PERSON_WIDTH};
 use columns::Bracket;
 
-// Above the first dimension the whole area formula is taken, above the second six tenths of it; in mm.
-const WHOLE_ABOVE: u64 = 8_000;
+// From the first dimension up the whole area formula is taken, from the second six tenths of it; in mm.
+const WHOLE_FROM: u64 = 8_000;
 
-const SIX_TENTHS_ABOVE: u64 = 1_000;
+const SIX_TENTHS_FROM: u64 = 1_000;
 
 pub const GLIDE: Bracket = Bracket {
     low: 2_570_666,
@@ -99,9 +99,9 @@ impl Formula {
     pub fn of(dimension: u64) -> Formula
         ensures { result ≡ formula_of dimension }
     {
-        if WHOLE_ABOVE < dimension {
+        if dimension >= WHOLE_FROM {
             Formula::Whole
-        } else if SIX_TENTHS_ABOVE < dimension {
+        } else if dimension >= SIX_TENTHS_FROM {
             Formula::SixTenths
         } else {
             Formula::GlideOnly

@@ -1,21 +1,21 @@
 -- When an aircraft keeps to a column: by its high area, and by its high slide.
-use mathlib.Core.Path.{◌≡◌, refl, sym, ap, ◌∙◌}
-use mathlib.Core.Logic.{⊎_elim, ◌↔◌}
+use mathlib.Core.Path.{◌≡◌, refl, ap, ◌∙◌}
+use mathlib.Core.Logic.{◌↔◌}
 use mathlib.Core.Bool.{true, false}
-use Prim.Native.Nat.{ℕ, ◌-◌, ◌≤◌, ◌<◌}
+use Prim.Native.Nat.{ℕ, ◌-◌, ◌≤◌}
 use native.Mathlib.Nat.{le_trans, mul-le-mul}
 use native.Mathlib.Omega.{arith}
 use lib.Dec.{eqb, leb, lit<}
 use borrow.Author.Tests.{eqb-true, eq-eqb, leb-true, le-leb}
 use Rattle.arithmetic.proofs.RoundingLaws.{up_le}
-use Rattle.arithmetic.proofs.TestLaws.{both, inside, lt_or_le}
+use Rattle.arithmetic.proofs.TestLaws.{both, inside}
 use Rattle.columns.specs.Column.{column_count, limit_at, column_of, not_a_column}
 use Rattle.columns.proofs.LimitLaws.{limit_mono}
 use Rattle.columns.proofs.ColumnAtMostHolds.{column_at_most}
 use Rattle.sheet.specs.Ranges.{mass_min, mass_max, speed_max, InRange}
 use Rattle.sheet.specs.declared.Formula.TheVariants.{GlideOnly}
-use Rattle.sheet.specs.Lines.{full_width, glide_of, whole_above, six_tenths_above, formula_of, glide_only_at, area_den, total_of, area_of, tenths}
-use Rattle.sheet.proofs.FormulaLaws.{takes_whole, takes_six_tenths}
+use Rattle.sheet.specs.Lines.{full_width, glide_of, formula_of, glide_only_at, area_den, total_of, area_of}
+use Rattle.sheet.proofs.FormulaLaws.{glide_only_below}
 use Rattle.sheet.specs.Sheet.{lines_of, with_lines, lines_with_size_column, sheet_of}
 use Rattle.sheet.specs.declared.SheetAnswer.{SheetAnswer}
 use Rattle.sheet.proofs.LineLaws.{lines_column}
@@ -83,21 +83,11 @@ keeps_higher_column w m v c c' h k =
 
 -- ---- where the area has no slide
 
-glide_only_cut : (w : ℕ) → formula_of w ≡ GlideOnly → w ≤ six_tenths_above
-glide_only_cut w e = ⊎_elim (λ (l : six_tenths_above < w). absurd (with_slide l)) (λ h. h) (lt_or_le six_tenths_above w)
-  where
-    -- the formulas differ in their tenths
-    with_slide : six_tenths_above < w → ⊥
-    with_slide l =
-        ⊎_elim (λ (k : whole_above < w). omega (arith, ap tenths (sym (takes_whole w k) ∙ e)))
-        (λ (k : w ≤ whole_above). omega (arith, ap tenths (sym (takes_six_tenths w k l) ∙ e)))
-        (lt_or_le whole_above w)
-
 -- the area is within the first limit
 glide_only_area : (w m v : ℕ) → formula_of w ≡ GlideOnly → (lines_of w m v).area.high ≤ limit_at 0
 unfolding lines_with_size_column with_lines area_of
 glide_only_area w m v e =
-    rw e (up_le 65000 (glide_only_at (full_width w) glide_of.high) (area_den GlideOnly) (lit< tt) (omega (arith, glide_only_cut w e, mul-le-mul (glide_only_cut w e) (glide_only_cut w e))))
+    rw e (up_le 65000 (glide_only_at (full_width w) glide_of.high) (area_den GlideOnly) (lit< tt) (omega (arith, glide_only_below w e, mul-le-mul (glide_only_below w e) (glide_only_below w e))))
 
 pub keeps_without_slide : (w m v c : ℕ) → InRange w m v → not_a_column c ≡ false → formula_of w ≡ GlideOnly → keeps_to w m v c ≡ true
 keeps_without_slide w m v c r n e =
