@@ -138,7 +138,7 @@ test-stack: $(ARCHIVE) $(MADE)/stack-used
 	python3 console/tests/stack.py $(ARCHIVE) $(MADE)/stack-used
 
 $(CALLS): console/tests/boundary_calls.py $(addprefix checker/,$(addsuffix .py,ground_risk library random_cases flagged_aircraft \
-    high_angle_aircraft high_angle_points descent_aircraft descent_points trade_off_aircraft)) | $(MADE)
+    high_angle_aircraft high_angle_points descent_aircraft descent_points trade_off_aircraft trade_off_tables area_route)) | $(MADE)
 	python3 console/tests/boundary_calls.py $@
 
 $(MADE)/boundary: console/tests/boundary.c $(HEADER) $(ARCHIVE)

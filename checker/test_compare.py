@@ -10,9 +10,11 @@ import sys
 import tempfile
 import unittest
 from collections import Counter
+from itertools import product
 from pathlib import Path
 from unittest import mock
 
+import area_route
 import ground_risk as g
 import library
 import trade_off_aircraft
@@ -160,6 +162,25 @@ class CallsTest(unittest.TestCase):
             for name in ("dimension", "speed"):
                 for off in (-1, 0, 1):
                     self.assertGreater(edges[dimension, name, off], 10, (dimension, name, off))
+
+    def test_where_the_column_is_above_the_size_column_is_drawn_often(self):
+        above, last, heaviest = Counter(), Counter(), Counter()
+        for n in range(4_000):
+            w, m, v = compare.drawn(random.Random(n), ("dimension", "mass", "speed")).values()
+            sheet = g.sheet(w, m, v)
+            if sheet.refusal == 0 and sheet.size_column != 0:
+                heaviest[w, v] += m == g.MASS_RANGE[1]
+                above[w] += sheet.column > sheet.size_column
+                if w in area_route.LEFT_OUT and sheet.column == sheet.size_column:
+                    # one cm/s more breaks it
+                    last[w] += not area_route.holds(w, m, v + 1) and v < area_route.smallest_pair(w)[1]
+        self.assertEqual({w for w, number in above.items() if number}, set(area_route.LEFT_OUT))
+        for w in area_route.LEFT_OUT:
+            self.assertGreater(above[w], 30, w)
+            self.assertGreater(last[w], 10, w)
+            # the heaviest at every pair's speed, by one millimetre
+            for near, (_, v) in product((w - 1, w, w + 1), g.SIZE_PAIRS):
+                self.assertGreater(heaviest[near, v], 1, (near, v))
 
     def test_multirotors_are_drawn_at_every_edge(self):
         answers, points, joules, flagged = Counter(), Counter(), Counter(), Counter()

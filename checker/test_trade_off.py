@@ -5,6 +5,7 @@ import random
 import unittest
 from bisect import bisect_left
 from collections import Counter
+from functools import cache
 from itertools import islice, product
 from pathlib import Path
 
@@ -153,12 +154,15 @@ def drawn(kinds):
         yield from (kind(source) for kind in kinds)
 
 
-DRAWN = list(islice(drawn(trade_off_aircraft.DRAWS), 3_000))
+@cache
+def all_draws():
+    """Drawn once, when first asked for: who imports this file for its whole-number forms needs none."""
+    return list(islice(drawn(trade_off_aircraft.DRAWS), 3_000))
 
 
 def draws(number):
-    assert number <= len(DRAWN)
-    return DRAWN[:number]
+    assert number <= len(all_draws())
+    return all_draws()[:number]
 
 
 class RefusalsTest(unittest.TestCase):

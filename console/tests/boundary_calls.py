@@ -34,6 +34,7 @@ from struct import pack
 
 sys.path.insert(0, str(Path(__file__).resolve().parents[2] / "checker"))
 
+import area_route
 import descent_aircraft
 import descent_points
 import ground_risk as g
@@ -41,6 +42,7 @@ import high_angle_aircraft
 import high_angle_points
 import random_cases as r
 import trade_off_aircraft
+import trade_off_tables
 from library import F64, LENT, OPERATIONS, U64, flat
 
 # Every third of the random cases: some of each kind.
@@ -177,10 +179,24 @@ def map_lengths():
 
 
 def sizes():
-    """Sheets at every pair's dimension and speed by one, at the ends of the masses, and with one mass that is refused."""
+    """Sheets at every pair's dimension and speed by one, at the ends of the masses, and with one mass that is refused; then those about
+    the dimensions at which the column may be above the size column."""
     dimensions, speeds = ([number + step for number in numbers for step in (-1, 0, 1)] for numbers in zip(*g.SIZE_PAIRS))
     lightest, heaviest = g.MASS_RANGE
-    return b"".join(answered("sheet", *aircraft) for aircraft in product(dimensions, (lightest - 1, lightest, heaviest), speeds))
+    pairs = product(dimensions, (lightest - 1, lightest, heaviest), speeds)
+    return b"".join(answered("sheet", *aircraft) for aircraft in (*pairs, *above_the_size_column()))
+
+
+def above_the_size_column():
+    """For many masses the last speed whose column isn't above the size column and the first whose column is, and the pair's speed by one;
+    for many speeds likewise the last mass and the first. All of them at the dimension itself and one millimetre to each side."""
+    for w in area_route.LEFT_OUT:
+        column, pair = area_route.smallest_pair(w)
+        aircraft = [(m, v) for m in trade_off_tables.MASSES
+                    for v in {*(g.greatest_speed(w, m, column).speed + step for step in (0, 1)), *by_one((pair,))}]
+        slowest = g.greatest_speed(w, g.MASS_RANGE[1], column).speed + 1
+        aircraft += [(g.greatest_mass(w, v, column).mass + step, v) for v in (*range(slowest, pair, 100), pair) for step in (0, 1)]
+        yield from ((near, m, v) for near in by_one((w,)) for m, v in aircraft)
 
 
 def by_one(numbers):

@@ -1,7 +1,7 @@
 """The pages' numbers: README's are the checker's (the fields of a case, the mitigation digits, the class table, the size columns, the
 refusals, the frame that it explains, the high impact angle model, the descent, the trade-off), and so are the cuts of the area and the
-ranges of the greatest speed and mass in the header and the Rust package, and those of TRADE_OFFS; TRUST's are the header's and the
-repository's."""
+ranges of the greatest speed and mass in the header and the Rust package, those of TRADE_OFFS, and what AREA_ROUTE says above its tables;
+TRUST's are the header's and the repository's."""
 
 import re
 import sys
@@ -11,14 +11,16 @@ from pathlib import Path
 ROOT = Path(__file__).resolve().parents[2]
 sys.path.insert(0, str(ROOT / "checker"))
 
+import area_route             # noqa: E402
 import case                   # noqa: E402
 import declarations           # noqa: E402
 import example_cases          # noqa: E402
 import ground_risk as g       # noqa: E402
 import stack                  # noqa: E402
 
-README, TRUST, TRADE_OFFS, HEADER, ANSWERS, CALLS = ((ROOT / page).read_text() for page in (
-    "README.md", "docs/TRUST.md", "docs/TRADE_OFFS.md", "console/include/nuggetbay.h", "console/rust/src/answers.rs", "console/rust/src/lib.rs"))
+README, TRUST, TRADE_OFFS, AREA_ROUTE, HEADER, ANSWERS, CALLS = ((ROOT / page).read_text() for page in (
+    "README.md", "docs/TRUST.md", "docs/TRADE_OFFS.md", "docs/AREA_ROUTE.md", "console/include/nuggetbay.h", "console/rust/src/answers.rs",
+    "console/rust/src/lib.rs"))
 RANGES = {"dimension": g.DIMENSION_RANGE, "mass": g.MASS_RANGE, "speed": g.SPEED_RANGE, "cell_area": g.CELL_AREA_RANGE}
 CREDITS = {"M1(A)": g.M1A_CREDITS, "M1(B)": g.M1B_CREDITS, "M1(C)": g.M1C_CREDITS, "M2": g.M2_CREDITS}
 
@@ -241,6 +243,40 @@ class TradeOffsTest(unittest.TestCase):
             width, mass, greatest = numbers_in(re.search(
                 rf"{turned} {metres} m and {metres_a_second} m/s.*?; (.*?) cm/s", TRADE_OFFS)[1].replace("column 3", "it"))
             self.assertEqual((width, g.greatest_speed(width, mass, int(column))), (float(metres) * 1000, (0, greatest)))
+
+
+class AreaRouteTest(unittest.TestCase):
+    """The words above what is made, which the checker's own tests hold."""
+
+    def test_the_ranges(self):
+        self.assertIn("({:,} to {:,} mm, {:,} to {:,} g, {:,} to {:,} cm/s)".format(*g.DIMENSION_RANGE, *g.MASS_RANGE, *g.SPEED_RANGE), AREA_ROUTE)
+        widest, fastest = g.SIZE_PAIRS[-1]
+        self.assertIn(f"above {widest // 1000} m or {fastest // 100} m/s", AREA_ROUTE)
+
+    def test_the_two_left_out(self):
+        left_out = "exactly {:,} and {:,} mm".format(*area_route.LEFT_OUT)
+        for page in (README, TRUST, AREA_ROUTE):
+            self.assertIn(left_out, page)
+        for source in (README, HEADER, ANSWERS):
+            self.assertIn(f"except at {left_out}, where it may be one above", joined(source))
+        speeds = [area_route.smallest_pair(dimension)[1] for dimension in area_route.LEFT_OUT]
+        for dimension, speed in zip(area_route.LEFT_OUT, speeds):
+            self.assertIn(f"bove {speed:,} cm/s at {dimension:,} mm", AREA_ROUTE)
+            self.assertIn(f"exactly {dimension:,} mm, up to {speed // 100} m/s", AREA_ROUTE)
+
+    def test_the_high_angle_above_the_size_column(self):
+        dimension, mass, column, size, speed = numbers_in(re.search(r"of which it would be wrong: (.*)", AREA_ROUTE)[1])
+        for fastest in (0, speed):
+            self.assertEqual((size_column(dimension, fastest), g.high_angle(dimension, mass, fastest).column), (size, column))
+        self.assertEqual((g.high_angle(dimension, mass, speed).flag, size_column(dimension, speed + 1)), (0, size + 1))
+        self.assertGreater(column, size)
+
+    def test_the_theorems_are_proved(self):
+        proofs = "".join(path.read_text() for path in ROOT.glob("crates/*/proofs/*Hold*.antt"))
+        named = re.findall(r"`(\w+)`", AREA_ROUTE)
+        self.assertGreater(len(named), 3)
+        for name in named:
+            self.assertRegex(proofs, rf"(?m)^pub {name} :")
 
 
 class TrustTest(unittest.TestCase):

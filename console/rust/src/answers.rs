@@ -49,8 +49,9 @@ pub struct Sheet {
     /// large enough. The five are 1,000 mm and 2,500 cm/s; 3,000 and 3,500; 8,000 and 7,500; 20,000 and 12,000; 40,000 and 20,000.
     ///
     /// It is there to be shown, so that crews can see why the area route was taken: where it is higher than the column, or `None`,
-    /// dimension and speed alone would give a higher column, or none. At exactly 1,000 and 8,000 mm it may be lower than the column.
-    /// The class comes from [`column`](Sheet::column), never from it.
+    /// dimension and speed alone would give a higher column, or none. Where one of the five is large enough, refusal 4 never comes
+    /// and the column is at most the size column, except at exactly 1,000 and 8,000 mm, where it may be one above. The class comes
+    /// from [`column`](Sheet::column), never from the size column.
     pub size_column: Option<u8>,
 }
 

@@ -41,12 +41,15 @@ fn the_flag_is_that_of_the_stored_example() {
     assert_eq!(sheet(P2).map(|sheet| sheet.flag), Ok(false));
 }
 
+/// Dimension and speed of each size column.
+const SIZE_PAIRS: [(u32, u32); 5] =
+    [(1_000, 2_500), (3_000, 3_500), (8_000, 7_500), (20_000, 12_000), (40_000, 20_000)];
+
 #[test]
 fn the_size_column_is_the_first_that_is_large_enough() {
-    let sizes = [(1_000, 2_500), (3_000, 3_500), (8_000, 7_500), (20_000, 12_000), (40_000, 20_000)];
     // so light that no area is refused
     let size_column = |dimension, speed| sheet(Aircraft { dimension, mass: 50, speed }).map(|sheet| sheet.size_column);
-    for (column, (dimension, speed)) in (1..).zip(sizes) {
+    for (column, (dimension, speed)) in (1..).zip(SIZE_PAIRS) {
         let next = Some(column + 1).filter(|&next| next <= 5);
         assert_eq!(size_column(dimension, speed), Ok(Some(column)));
         assert_eq!(size_column(dimension + 1, speed), Ok(next));
@@ -55,6 +58,27 @@ fn the_size_column_is_the_first_that_is_large_enough() {
     assert_eq!(size_column(50, 0), Ok(Some(1)));
     assert_eq!(size_column(100_000, 0), Ok(None));
     assert_eq!(size_column(50, 40_000), Ok(None));
+}
+
+#[test]
+fn the_column_is_never_above_the_size_column_but_at_two_dimensions() {
+    // the heaviest at the pair's speed has the largest area
+    let above = |dimension, speed| {
+        let sheet = sheet(Aircraft { dimension, mass: 25_000_000, speed }).expect("refusal 4 never comes");
+        sheet.column > sheet.size_column.expect("the pair is large enough")
+    };
+    let found: Vec<(u32, u32)> = SIZE_PAIRS
+        .into_iter()
+        .flat_map(|(widest, speed)| (50..=widest).map(move |dimension| (dimension, speed)))
+        .filter(|&(dimension, speed)| above(dimension, speed))
+        .collect();
+    assert_eq!(found, [(1_000, 2_500), (8_000, 7_500)]);
+    let heaviest = Aircraft { dimension: 8_000, mass: 25_000_000, speed: 7_500 };
+    for (aircraft, low, column, size_column) in [(P2, 114_494, 2, 1), (heaviest, 10_121_539, 4, 3)] {
+        let sheet = sheet(aircraft).unwrap();
+        assert_eq!((sheet.area, sheet.column, sheet.flag), (bracket(low, low + 1), column, false));
+        assert_eq!(sheet.size_column, Some(size_column));
+    }
 }
 
 #[test]

@@ -1,8 +1,7 @@
 -- Demand 3.
 use mathlib.Core.Path.{◌≡◌, ap}
-use mathlib.Core.Logic.{◌⊎◌, ⊎_elim}
-use Prim.Native.Nat.{ℕ, ◌+◌, ◌≤◌}
-use native.Mathlib.Omega.{arith}
+use Prim.Native.Nat.{ℕ}
+use Rattle.columns.proofs.ExactColumnHolds.{exact_not_above}
 use Rattle.exact_area.specs.Accuracy.{ColumnIsAccurate}
 use Rattle.exact_area.proofs.AccuracyHolds.{sheet_is_accurate}
 use Rattle.assessment.specs.Question.{sheet_asked, exact_column_asked, footprint_asked}
@@ -16,7 +15,7 @@ demand_3 q accepted =
       accuracy = (sheet_is_accurate q.dimension q.mass q.speed).area accepted;
       columns = columns;
       unflagged_working = λ e. same (columns.unflagged e);
-      flagged_working = λ e. lower_column column exact columns.exact_in_table.0 (not_above (columns.flagged e)) q.controlled q.word (footprint_asked q);
+      flagged_working = λ e. lower_column column exact columns.exact_in_table.0 (exact_not_above columns) q.controlled q.word (footprint_asked q);
     }
   where
     columns : ColumnIsAccurate q.dimension q.mass q.speed (sheet_asked q).sheet
@@ -35,6 +34,3 @@ demand_3 q accepted =
           final = ap (λ (c : ℕ). (working_at c q).final) e;
           refusal = ap (λ (c : ℕ). (working_at c q).refusal) e;
         }
-
-    not_above : (exact ≡ column) ⊎ (exact + 1 ≡ column) → exact ≤ column
-    not_above h = ⊎_elim (λ (e : exact ≡ column). omega arith) (λ (e : exact + 1 ≡ column). omega arith) h

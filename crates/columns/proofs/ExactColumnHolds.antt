@@ -2,14 +2,14 @@
 use mathlib.Core.Path.{◌≡◌, refl, sym, ◌∙◌, subst}
 use mathlib.Core.Bool.{Bool, true, false, cond}
 use mathlib.Core.Logic.{◌⊎◌, inl, inr, ⊎_elim}
-use Prim.Native.Nat.{ℕ, zero, suc, ◌+◌, ◌-◌, ◌<◌}
+use Prim.Native.Nat.{ℕ, zero, suc, ◌+◌, ◌-◌, ◌≤◌, ◌<◌}
 use native.Mathlib.Nat.{eq-or-lt_of_le}
 use native.Mathlib.Numerals.{add-one}
 use native.Mathlib.Omega.{arith}
 use lib.Dec.{leb}
 use borrow.Author.Tests.{leb-true, leb-false, lt-ltb}
 use Rattle.columns.specs.Column.{limit_at, last_limit, column_by, column_of, flag_of}
-use Rattle.columns.specs.ExactColumn.{LiesIn, MeetsAtMostOneLimit, ExactColumnLaw}
+use Rattle.columns.specs.ExactColumn.{LiesIn, MeetsAtMostOneLimit, ColumnAgrees, ExactColumnLaw}
 use Rattle.columns.specs.declared.Bracket.{Bracket}
 use Rattle.columns.proofs.ColumnLaws.{FirstLimit, column_at, limit_found, column_in_table, flag_at_most_one}
 
@@ -84,3 +84,11 @@ exact_column_lem area under in_bracket at_most_one top =
       unflagged = λ e. unflagged_at area under in_bracket at_most_one found.0 found.1 (rw column at e) ∙ sym column;
       flagged = λ _. rw column (same_or_one_less area under in_bracket at_most_one found.0 found.1);
     }
+
+-- flagged or not, the exact column isn't above the other
+pub exact_not_above : {exact column flag : ℕ} → ColumnAgrees exact column flag → exact ≤ column
+exact_not_above {exact} {column} {flag} h = by_flag flag refl
+  where
+    by_flag : (n : ℕ) → flag ≡ n → exact ≤ column
+    by_flag zero e = omega (arith, h.unflagged e)
+    by_flag (suc n) e = ⊎_elim (λ (q : exact ≡ column). omega arith) (λ (q : exact + 1 ≡ column). omega arith) (h.flagged (omega (arith, h.flag_zero_or_one)))

@@ -18,7 +18,7 @@ use Rattle.columns.proofs.GrowingTable.{entries_grow}
 dimension_mono : (i k : ℕ) → i ≤ k → k < column_count → (size_pair_at i).dimension ≤ (size_pair_at k).dimension
 dimension_mono = entries_grow (λ i. (size_pair_at i).dimension) 4 refl
 
-speed_mono : (i k : ℕ) → i ≤ k → k < column_count → (size_pair_at i).speed ≤ (size_pair_at k).speed
+pub speed_mono : (i k : ℕ) → i ≤ k → k < column_count → (size_pair_at i).speed ≤ (size_pair_at k).speed
 speed_mono = entries_grow (λ i. (size_pair_at i).speed) 4 refl
 
 -- a pair is large enough exactly when both of its numbers are
@@ -60,6 +60,12 @@ none w v = (to, from)
     from : ((n : ℕ) → n < column_count → large_enough w v (size_pair_at n) ≡ false) → size_column_of w v ≡ 0
     from h = unfold size_column_of in first_none (size_pair 0 0) (large_enough w v) size_pairs 1 h
 
+-- the pair of the size column takes in the aircraft
+pub taken_in : (w v n : ℕ) → size_column_of w v ≡ suc n → (n < column_count) × (w ≤ (size_pair_at n).dimension) × (v ≤ (size_pair_at n).speed)
+taken_in w v n e =
+    let l : n < column_count = omega (arith, in_table w v) in
+    let pair = (at_most w v n l).0 (omega arith, omega arith) in (l, pair.0, pair.1)
+
 rank_at_most : (n : ℕ) → n ≤ column_count → size_rank n ≤ column_count + 1
 rank_at_most zero h = omega arith
 rank_at_most (suc n) h = omega arith
@@ -68,9 +74,8 @@ rank_at_most (suc n) h = omega arith
 rank_grows : (w w' v v' n : ℕ) → size_column_of w' v' ≡ n → w ≤ w' → v ≤ v' → size_rank (size_column_of w v) ≤ size_rank n
 rank_grows w w' v v' zero e hw hv = rank_at_most (size_column_of w v) (in_table w v)
 rank_grows w w' v v' (suc n) e hw hv =
-    let l : n < column_count = omega (arith, in_table w' v') in
-    let pair = (at_most w' v' n l).0 (omega arith, omega arith) in
-    let smaller = (at_most w v n l).1 (le_trans hw pair.0, le_trans hv pair.1) in
+    let larger = taken_in w' v' n e in
+    let smaller = (at_most w v n larger.0).1 (le_trans hw larger.1, le_trans hv larger.2) in
     rank_of (size_column_of w v) smaller
   where
     rank_of : (m : ℕ) → (1 ≤ m) × (m ≤ n + 1) → size_rank m ≤ suc n

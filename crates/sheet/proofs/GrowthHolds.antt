@@ -1,4 +1,5 @@
--- More speed or more mass never lowers an area; more dimension can.
+-- More speed or more mass never lowers an area, nor does more dimension in one formula; from one to another it can.
+use mathlib.Core.Path.{refl}
 use Prim.Native.Nat.{ℕ, ◌≤◌, ◌<◌}
 use native.Mathlib.Nat.{mul-le-mul, mul-le-mul_left, mul-le-mul_right, add-le-add, le_refl}
 use native.Mathlib.Omega.{arith}
@@ -9,7 +10,7 @@ use Rattle.sheet.specs.declared.Formula.{Formula}
 use Rattle.sheet.specs.declared.Formula.TheVariants.{Whole, SixTenths, GlideOnly}
 use Rattle.sheet.specs.Lines.{full_width, glide_of, formula_of, run_rate, run_scale, run_of, saving_times_mass, saving_of, total_at, total_of, area_num, area_den, area_of}
 use Rattle.sheet.specs.Sheet.{with_lines, lines_with_size_column}
-use Rattle.sheet.specs.Growth.{AreaGrowsWithMassAndSpeed, AreaDoesNotAlwaysGrow}
+use Rattle.sheet.specs.Growth.{AreaGrowsWithMassAndSpeed, AreaGrowsInOneFormula, AreaDoesNotAlwaysGrow}
 use Rattle.sheet.proofs.FormulaLaws.{denominator_pos}
 
 run_grows : (v v' : ℕ) → v ≤ v' → ((run_of v).low ≤ (run_of v').low) × ((run_of v).high ≤ (run_of v').high)
@@ -34,19 +35,19 @@ numerator_grows Whole a a' g s s' ha hs = total_grows a a' g s s' ha hs
 numerator_grows SixTenths a a' g s s' ha hs = mul-le-mul_left 3 (total_grows a a' g s s' ha hs)
 numerator_grows GlideOnly a a' g s s' ha hs = omega (arith, mul-le-mul_right g ha, mul-le-mul ha ha)
 
-pub area_grows : AreaGrowsWithMassAndSpeed
+pub area_grows_in_one_formula : AreaGrowsInOneFormula
 unfolding lines_with_size_column with_lines area_of total_of
-area_grows w m m' v v' p hm hv =
+area_grows_in_one_formula w w' m m' v v' e hw p hm hv =
     let run = run_grows v v' hv
     in let saving = saving_falls m m' (omega arith) hm
+    in let f = formula_of w'
     in record {
-      low =
-          down_mono _ _ (area_den (formula_of w)) (denominator_pos (formula_of w))
-          (numerator_grows (formula_of w) (full_width w) (full_width w) glide_of.low _ _ (le_refl _) (omega arith));
-      high =
-          up_mono _ _ (area_den (formula_of w)) (denominator_pos (formula_of w))
-          (numerator_grows (formula_of w) (full_width w) (full_width w) glide_of.high _ _ (le_refl _) (omega arith));
+      low = rw e (down_mono _ _ (area_den f) (denominator_pos f) (numerator_grows f (full_width w) (full_width w') glide_of.low _ _ (omega arith) (omega arith)));
+      high = rw e (up_mono _ _ (area_den f) (denominator_pos f) (numerator_grows f (full_width w) (full_width w') glide_of.high _ _ (omega arith) (omega arith)));
     }
+
+pub area_grows : AreaGrowsWithMassAndSpeed
+area_grows w m m' v v' = area_grows_in_one_formula w w m m' v v' refl (le_refl w)
 
 pub area_does_not_always_grow : AreaDoesNotAlwaysGrow
 unfolding lines_with_size_column with_lines area_of formula_of total_of saving_of run_of div_up

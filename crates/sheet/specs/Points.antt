@@ -26,7 +26,7 @@ pub record SheetPoint : Type 0 where
 abbrev pub SheetPointHolds : SheetPoint → Type 0
 SheetPointHolds p = sheet_figures p.w p.m p.v ≡ p.figures
 
-abbrev accepted : ℕ → ℕ → ℕ → ℕ → ℕ → ℕ → ℕ → SheetPoint
+abbrev pub accepted : ℕ → ℕ → ℕ → ℕ → ℕ → ℕ → ℕ → SheetPoint
 accepted w m v low high column size =
     record { w = w; m = m; v = v; figures = record { refusal = 0; low = low; high = high; column = column; size_column = size } }
 

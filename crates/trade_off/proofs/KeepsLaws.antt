@@ -1,25 +1,21 @@
 -- When an aircraft keeps to a column: by its high area, and by its high slide.
-use mathlib.Core.Path.{◌≡◌, refl, ap, ◌∙◌}
+use mathlib.Core.Path.{◌≡◌, refl}
 use mathlib.Core.Logic.{◌↔◌}
 use mathlib.Core.Bool.{true, false}
 use Prim.Native.Nat.{ℕ, ◌-◌, ◌≤◌}
-use native.Mathlib.Nat.{le_trans, mul-le-mul}
+use native.Mathlib.Nat.{le_trans}
 use native.Mathlib.Omega.{arith}
-use lib.Dec.{eqb, leb, lit<}
+use lib.Dec.{eqb, leb}
 use borrow.Author.Tests.{eqb-true, eq-eqb, leb-true, le-leb}
-use Rattle.arithmetic.proofs.RoundingLaws.{up_le}
 use Rattle.arithmetic.proofs.TestLaws.{both, inside}
-use Rattle.columns.specs.Column.{column_count, limit_at, column_of, not_a_column}
+use Rattle.columns.specs.Column.{column_count, limit_at, not_a_column}
 use Rattle.columns.proofs.LimitLaws.{limit_mono}
-use Rattle.columns.proofs.ColumnAtMostHolds.{column_at_most}
 use Rattle.sheet.specs.Ranges.{mass_min, mass_max, speed_max, InRange}
 use Rattle.sheet.specs.declared.Formula.TheVariants.{GlideOnly}
-use Rattle.sheet.specs.Lines.{full_width, glide_of, formula_of, glide_only_at, area_den, total_of, area_of}
-use Rattle.sheet.proofs.FormulaLaws.{glide_only_below}
+use Rattle.sheet.specs.Lines.{formula_of, total_of, area_of}
 use Rattle.sheet.specs.Sheet.{lines_of, with_lines, lines_with_size_column, sheet_of}
-use Rattle.sheet.specs.declared.SheetAnswer.{SheetAnswer}
-use Rattle.sheet.proofs.LineLaws.{lines_column}
-use Rattle.sheet.proofs.AcceptanceHolds.{sheet_promise, refused_exactly_when}
+use Rattle.sheet.proofs.LineBounds.{glide_only_area}
+use Rattle.sheet.proofs.AcceptanceHolds.{refused_exactly_when, accepted_within}
 use Rattle.sheet.proofs.GrowthHolds.{area_grows}
 use Rattle.trade_off.specs.TradeOff.{keeps_to}
 use Rattle.trade_off.specs.PrivateSolved.{high_area, high_slide}
@@ -53,17 +49,13 @@ module _ (w m v : ℕ) where
     pub keeps_in_range : keeps_to w m v c ≡ true → InRange w m v
     keeps_in_range h = ((refused_exactly_when w m v).none.0 (keeps_accepted h).0).0
 
-    column_is : (sheet_of w m v).refusal ≡ 0 → (sheet_of w m v).sheet.column ≡ column_of (lines_of w m v).area.high
-    column_is e = ap (λ (a : SheetAnswer). a.sheet.column) ((sheet_promise w m v).if_accepted e) ∙ lines_column w m v
-
     -- an aircraft in range keeps to a column just where its high area is within the column's limit
     pub keeps_by_area : InRange w m v → not_a_column c ≡ false → keeps_to w m v c ≡ true ↔ (lines_of w m v).area.high ≤ limit_at (c - 1)
     keeps_by_area r n =
         let place = column_place c n in
-        let at_most = column_at_most (lines_of w m v).area.high (c - 1) (omega (arith, place)) in
-        let accepted = (refused_exactly_when w m v).none in (
-          λ h. let k = keeps_accepted h in at_most.0 ((accepted.0 k.0).1, omega (arith, place, k.1, column_is k.0)),
-          λ h. let k = at_most.1 h in let e = accepted.1 (r, k.0) in accepted_keeps e (omega (arith, place, k.1, column_is e)),
+        let within = accepted_within w m v (c - 1) (omega (arith, place)) r in (
+          λ h. let k = keeps_accepted h in within.0 (k.0, omega (arith, place, k.1)),
+          λ h. let k = within.1 h in accepted_keeps k.0 (omega (arith, place, k.1)),
         )
 
     pub keeps_exactly : InRange w m v → not_a_column c ≡ false → keeps_to w m v c ≡ true ↔ high_area w (high_slide m v) ≤ limit_at (c - 1)
@@ -82,12 +74,6 @@ keeps_higher_column w m v c c' h k =
     let a = keeps_accepted w m v c k in accepted_keeps w m v c' a.0 (le_trans a.1 h)
 
 -- ---- where the area has no slide
-
--- the area is within the first limit
-glide_only_area : (w m v : ℕ) → formula_of w ≡ GlideOnly → (lines_of w m v).area.high ≤ limit_at 0
-unfolding lines_with_size_column with_lines area_of
-glide_only_area w m v e =
-    rw e (up_le 65000 (glide_only_at (full_width w) glide_of.high) (area_den GlideOnly) (lit< tt) (omega (arith, glide_only_below w e, mul-le-mul (glide_only_below w e) (glide_only_below w e))))
 
 pub keeps_without_slide : (w m v c : ℕ) → InRange w m v → not_a_column c ≡ false → formula_of w ≡ GlideOnly → keeps_to w m v c ≡ true
 keeps_without_slide w m v c r n e =

@@ -1,0 +1,4 @@
+pub mod AreaWithin
+pub mod AreaRouteHolds
+pub mod LeftOutHolds
+pub mod PointsHold

@@ -1,0 +1,3 @@
+pub mod AreaRoute
+pub mod LeftOut
+pub mod Points
