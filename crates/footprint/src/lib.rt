@@ -78,7 +78,8 @@ fn marked_cells(m: MarkedMap, w: MapWalk) -> MarkedCells
     }
 }
 
-// The footprint on the map, or its refusal.
+// The footprint on the map, or its refusal. In place of each call no answer is copied from Result to struct.
+#[inline(always)]
 pub fn footprint_on_map(map: GroundMap, marks: &[u64]) -> Result<MarkedCells, Refusal>
     ensures { footprint_answer result ≡ footprint_of (map_of map.entry) marks.now }
 {

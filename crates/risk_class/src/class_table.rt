@@ -13,8 +13,9 @@ const COLUMNS: u8 = 5;
 
 const ROWS: u8 = 7;
 
-// Rows 1 to 7, row 1 for controlled ground, of columns 1 to 5.
-pub(crate) const CLASSES: [[u8; 5]; 7] = [
+// Rows 1 to 7, row 1 for controlled ground, of columns 1 to 5. Static, as CREDITS is: a constant table is laid on the stack at each
+// reading.
+pub(crate) static CLASSES: [[u8; 5]; 7] = [
     [1, 1, 2, 3, 3],
     [2, 3, 4, 5, 6],
     [3, 4, 5, 6, 7],

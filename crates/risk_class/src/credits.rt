@@ -13,7 +13,7 @@ enum Mitigation {
 }
 
 // The credits of the digits 0 to 3 of each mitigation, none where a digit isn't offered.
-const CREDITS: [[Option<u8>; 4]; 4] = [
+static CREDITS: [[Option<u8>; 4]; 4] = [
     [Some(0), Some(1), Some(2), None],
     [Some(0), None, Some(1), Some(2)],
     [Some(0), Some(1), None, None],
